@@ -1,0 +1,8 @@
+pub mod Kept
+pub mod Depth
+pub mod Built
+pub mod Layers
+pub mod Calculus
+pub mod Rules
+pub mod Frame
+pub mod Shapes

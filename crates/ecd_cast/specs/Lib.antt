@@ -1,0 +1,12 @@
+pub mod Memory
+pub mod Expressions
+pub mod Meaning
+pub mod Kinds
+pub mod Validity
+pub mod Lexemes
+pub mod Spelling
+pub mod Built
+pub mod Ends
+pub mod Kept
+pub mod Rules
+pub mod Laws

@@ -1,0 +1,46 @@
+//! Facts about the definitions alone, each the contract of a function that does nothing.
+
+ghost use Rattle.ecd_cast.specs.Laws.{MeaningIsKept, ValidityIsKept, ValidHasNoFault, Sequence, Choice, Call, CallDeclares, Repetition, OtherBlocks, WritesMakeMemory, Steps};
+
+/// Items behind a function change nothing of what it does, and nothing of an item's validity.
+pub fn items_behind()
+    ensures meaning { MeaningIsKept }
+    ensures validity { ValidityIsKept }
+{}
+
+/// A program that breaks no rule has no first fault.
+pub fn valid_has_no_fault()
+    ensures { ValidHasNoFault }
+{}
+
+/// Ends, writes and steps of a sequence from those of its parts.
+pub fn sequence()
+    ensures { Sequence }
+{}
+
+/// What a choice answers, from what its parts answer.
+pub fn choice()
+    ensures { Choice }
+{}
+
+/// Ends, writes and steps of a call from those of its body.
+pub fn call()
+    ensures body { Call }
+    ensures declares { CallDeclares }
+{}
+
+/// What a loop answers, from what holds at the beginning of each turn.
+pub fn repetition()
+    ensures { Repetition }
+{}
+
+/// The memory behind a run is what its writes make of it, and blocks that it does not write to stay.
+pub fn memory()
+    ensures writes { WritesMakeMemory }
+    ensures others { OtherBlocks }
+{}
+
+/// The first steps of a run.
+pub fn steps()
+    ensures { Steps }
+{}
