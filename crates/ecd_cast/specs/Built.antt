@@ -3,7 +3,7 @@ use Rattle.std.specs.Prelude.{ℕ, ◌≡◌, List, [], false}
 use Rattle.ecd_cast.specs.declared.tree.CItem.{CItem}
 use Rattle.ecd_cast.specs.declared.tree.Program.{Program}
 use Rattle.ecd_cast.specs.Validity.{faults_from, call_depth_of, items_call}
-use Rattle.ecd_cast.specs.Spelling.{AreSpelledItems}
+use Rattle.ecd_cast.specs.Spelling.{AreSpelledItems, IsSpelledProgram}
 
 pub record IsBuilt (items : List CItem) (depth : ℕ) : Type 0 where
   pub sound : faults_from [] items 0 ≡ []
@@ -13,5 +13,5 @@ pub record IsBuilt (items : List CItem) (depth : ℕ) : Type 0 where
 
 pub record IsFile (p : Program) : Type 0 where
   pub sound : faults_from [] p.items 0 ≡ []
-  pub spelled : AreSpelledItems p.items
+  pub spelled : IsSpelledProgram p
   pub depth_is : p.depth ≡ call_depth_of p.items

@@ -1,5 +1,5 @@
 -- How a text spells a program.
-use Rattle.std.specs.Prelude.{ℕ, ◌≡◌, ◌<◌, ◌^◌, Bool, true, false, ◌&&◌, not, List, [], ◌∷◌, ◌++◌, length, codes, decimal, flat_map, map}
+use Rattle.std.specs.Prelude.{ℕ, ◌≡◌, ◌<◌, ◌^◌, Bool, true, false, ◌&&◌, not, List, [], ◌∷◌, ◌++◌, length, codes, decimal, flat_map}
 use Rattle.std.specs.List.{list_all}
 use Rattle.ecd_cast.specs.declared.tree.Op.{Op}
 use Rattle.ecd_cast.specs.declared.tree.Op.TheVariants.{Add, Sub, Mul, Shl, Shr, BitAnd, BitOr, Eq, Ne, Lt, Le, Gt, Ge, And, Or}
@@ -58,17 +58,14 @@ abbrev mutual
   operand_lexemes end_of-Expr = []
   operand_lexemes (more_of-Expr e rest) = expr_lexemes e
 
--- lists with a comma between their members
-abbrev pub behind_commas : List (List Lexeme) → List Lexeme
-behind_commas members = flat_map (λ ls. codes "," ∷ ls) members
-
-abbrev pub with_commas : List (List Lexeme) → List Lexeme
-with_commas [] = []
-with_commas (ls ∷ more) = ls ++ behind_commas more
+-- a list with commas between its members
+abbrev pub with_commas : {X : Type 0} → (X → List Lexeme) → List X → List Lexeme
+with_commas f [] = []
+with_commas f (x ∷ xs) = f x ++ flat_map (λ y. codes "," ∷ f y) xs
 
 abbrev pub source_lexemes : Source → List Lexeme
 source_lexemes (FromValue e) = expr_lexemes e
-source_lexemes (FromCall g args) = g ∷ codes "(" ∷ (with_commas (map expr_lexemes args) ++ codes ")" ∷ [])
+source_lexemes (FromCall g args) = g ∷ codes "(" ∷ (with_commas expr_lexemes args ++ codes ")" ∷ [])
 
 abbrev mutual
   pub stmt_lexemes : Stmt → List Lexeme
@@ -108,7 +105,7 @@ cell_lexemes c = elim c.kind [
 abbrev pub item_lexemes : CItem → List Lexeme
 item_lexemes (AStructDecl s) = codes "struct" ∷ s.name ∷ codes "{" ∷ (flat_map cell_lexemes s.cells ++ codes "}" ∷ codes ";" ∷ [])
 item_lexemes (AFunction f) =
-    codes "uint64_t" ∷ f.name ∷ codes "(" ∷ (with_commas (map param_lexemes f.params) ++ codes ")" ∷ codes "{" ∷ (stmts_lexemes f.body ++ codes "}" ∷ []))
+    codes "uint64_t" ∷ f.name ∷ codes "(" ∷ (with_commas param_lexemes f.params ++ codes ")" ∷ codes "{" ∷ (stmts_lexemes f.body ++ codes "}" ∷ []))
 
 abbrev pub program_lexemes : Program → List Lexeme
 program_lexemes p = codes "enum" ∷ codes "{" ∷ codes "call_depth" ∷ codes "=" ∷ decimal p.depth ∷ codes "}" ∷ codes ";" ∷ flat_map item_lexemes p.items
@@ -194,3 +191,8 @@ IsSpelledItem (AFunction f) = IsName f.name × (0 < length f.params) × AreSpell
 abbrev pub AreSpelledItems : List CItem → Type 0
 AreSpelledItems [] = Unit {0}
 AreSpelledItems (i ∷ is) = IsSpelledItem i × AreSpelledItems is
+
+-- a program that has a spelling: its depth fits too
+pub record IsSpelledProgram (p : Program) : Type 0 where
+  pub fits : p.depth < 2 ^ 32
+  pub items_are : AreSpelledItems p.items

@@ -2,7 +2,7 @@
 
 ghost use Rattle.std.specs.Prelude.{◌≡◌, [], ◌∷◌, ◌++◌, OnOk, OnErr, length, false};
 ghost use Rattle.ecd_cast.specs.Validity.{IsValid, IsValidAfter, call_depth_of, item_calls};
-ghost use Rattle.ecd_cast.specs.Spelling.{AreSpelledItems, IsSpelledItem};
+ghost use Rattle.ecd_cast.specs.Spelling.{IsSpelledProgram, IsSpelledItem};
 
 use crate::tree::{CItem, CItemList, Program};
 use ecd_list::OutOfMemory;
@@ -34,7 +34,7 @@ impl Valid {
     pub fn program(&self) -> &Program
         ensures same { result.now ≡ self.now }
         ensures valid { IsValid self.now }
-        ensures spelled { AreSpelledItems self.now.items }
+        ensures spelled { IsSpelledProgram self.now }
     {
         &self.program
     }
@@ -116,7 +116,7 @@ impl Builder {
         ensures items { result.items ≡ self }
         ensures depth { result.depth ≡ call_depth_of self }
         ensures valid { IsValid result }
-        ensures spelled { AreSpelledItems result.items }
+        ensures spelled { IsSpelledProgram result }
     {
         let Builder { items, depth } = self;
         Valid {

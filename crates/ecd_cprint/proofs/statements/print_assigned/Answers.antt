@@ -1,0 +1,5 @@
+use Rattle.ecd_cprint.proofs.Joins.{grows_then}
+use Rattle.ecd_cprint.proofs.statements.print_assigned.Goals as goal
+
+pub returns : goal.returns
+returns c = grows_then c.in_ok-put.ensures (grows_then c.in_ok-put-2.ensures (grows_then c.in_ok-print_source.ensures c.in_ok-put-3.ensures))
