@@ -1,0 +1,39 @@
+-- What a compiled program does.
+use Rattle.std.specs.Prelude.{ℕ, ◌+◌, ◌^◌, ◌<◌, ◌≤◌, ◌≡◌, ◌≢◌, List, [], ◌∷◌, length, codes, slice_get, Some}
+use Rattle.ecd_cast.specs.declared.tree.CItem.{CItem}
+use Rattle.ecd_cast.specs.declared.tree.Program.{Program}
+use Rattle.ecd_cast.specs.declared.value.Value.TheVariants.{Number as Num, Bytes as Ptr, Struct as Str}
+use Rattle.ecd_cast.specs.declared.value.Cell.TheVariants.{Number as HoldsNumber}
+use Rattle.ecd_cast.specs.Memory.{Memory, Bytes, Event, WritesCell, writes_of, most_active}
+use Rattle.ecd_cast.specs.Meaning.{Run, Returns, calls_of}
+use Rattle.ecd_cast.specs.Validity.{IsValid}
+use Rattle.ecd_cast.specs.Spelling.{Spells}
+use Rattle.ecd_compile.specs.Thin.{IsThin}
+
+-- the call returns n, writes exactly these, and never has more calls active than the depth
+pub record Gives (run : Run) (n : ℕ) (writes : List Event) (depth : ℕ) : Type 0 where
+  pub events : List Event
+  pub returns : run ≡ Returns n events
+  pub wrote : writes_of events ≡ writes
+  pub within : most_active 0 events ≤ depth
+
+-- read_0 on len bytes from an offset of a block, with a struct
+abbrev pub reading : List CItem → (block offset len out : ℕ) → Memory → Run
+reading items block offset len out m = calls_of items (codes "read_0") (Ptr block offset ∷ Num len ∷ Str out ∷ []) m
+
+-- on every buffer, from any offset of its block, read_0 takes the one byte n and sets unit to 0, and else returns 0 and writes nothing
+pub record ReadsByte (n : ℕ) (p : Program) : Type 0 where
+  pub takes :
+    (block offset len out : ℕ) (m : Memory) (bytes : List ℕ) → slice_get m block ≡ Some (Bytes bytes) → offset + len ≤ length bytes → len < 2 ^ 62 →
+    1 ≤ len → slice_get bytes offset ≡ Some n → Gives (reading p.items block offset len out m) 1 (WritesCell out (codes "unit") (HoldsNumber 0) ∷ []) p.depth
+  pub refuses :
+    (block offset len out : ℕ) (m : Memory) (bytes : List ℕ) → slice_get m block ≡ Some (Bytes bytes) → offset + len ≤ length bytes → len < 2 ^ 62 →
+    (1 ≤ len → slice_get bytes offset ≢ Some n) → Gives (reading p.items block offset len out m) 0 [] p.depth
+
+-- the schema is thin, with a number that the program reads, and the text spells the program, which is valid
+pub record IsCompiled (schema root text : List ℕ) (p : Program) : Type 0 where
+  pub number : ℕ
+  pub thin : IsThin schema root number
+  pub spells : Spells p text
+  pub valid : IsValid p
+  pub reads : ReadsByte number p
