@@ -1,10 +1,10 @@
 -- A builder's items stay what they are with one more.
-use Rattle.std.proofs.Common.{◌≡◌, ℕ, ◌+◌, List, [], ◌∷◌, ◌++◌, length, refl, ap, sym, ◌∙◌, subst, false, arith}
+use Rattle.std.proofs.Common.{◌≡◌, ℕ, ◌+◌, List, [], ◌∷◌, ◌++◌, length, refl, sym, ◌∙◌, subst, false, arith}
 use Rattle.ecd_cast.specs.declared.tree.StructDecl.{StructDecl}
 use Rattle.ecd_cast.specs.declared.tree.Function.{Function}
 use Rattle.ecd_cast.specs.declared.tree.CItem.{CItem}
 use Rattle.ecd_cast.specs.declared.tree.CItem.TheVariants.{Struct as AStructDecl, Function as AFunction}
-use Rattle.ecd_cast.specs.Validity.{IsValidAfter, faults_from, item_faults, item_calls, items_call, call_depth_of, block_calls}
+use Rattle.ecd_cast.specs.Validity.{IsValidAfter, faults_from, item_faults, item_calls}
 use Rattle.ecd_cast.specs.Spelling.{IsSpelledItem, AreSpelledItems}
 use Rattle.ecd_cast.specs.Built.{IsBuilt}
 use Rattle.ecd_cast.proofs.Kept.{items_grow}

@@ -1,6 +1,5 @@
 -- Ends, writes and steps of a run from those of its parts.
-use Rattle.std.proofs.Common.{◌≡◌, ℕ, zero, suc, ◌+◌, ◌*◌, ◌<◌, ◌≤◌, List, [], ◌∷◌, ◌++◌, length, refl, ap, sym, ◌∙◌, subst, arith, append_assoc, add-zero, append-nil}
-use Rattle.std.specs.Prelude.{bytes_eq, Bool, true, false}
+use Rattle.std.proofs.Common.{◌≡◌, ℕ, zero, suc, ◌+◌, ◌*◌, ◌<◌, ◌≤◌, List, [], ◌∷◌, ◌++◌, length, refl, ap, sym, ◌∙◌, subst, arith, add-zero, append-nil}
 use Rattle.ecd_cast.specs.declared.tree.CItem.{CItem}
 use Rattle.ecd_cast.specs.declared.tree.CItem.TheVariants.{Struct as AStruct, Function as AFunction}
 use Rattle.ecd_cast.specs.declared.tree.Function.{Function}
@@ -10,7 +9,7 @@ use Rattle.ecd_cast.specs.declared.tree.Source.TheVariants.{Call as FromCall}
 use Rattle.ecd_cast.specs.declared.tree.Expr.{Expr}
 use Rattle.ecd_cast.specs.Memory.{Name, Event, Step, Enters, Leaves, WritesByte, WritesCell, Memory, Num, Value, after, event, writes_of, steps_of}
 use Rattle.ecd_cast.specs.Expressions.{Scopes, Frame}
-use Rattle.ecd_cast.specs.Meaning.{Run, Returns, Falls, Stuck, Calls, calls_from, calls_of, no_calls, with_item, Code, turns, fall, doing, and_then, from_call, scoped, called, block, frame_of, ended, Place, does, shifted, count_of, with_args, declare, assign, leave}
+use Rattle.ecd_cast.specs.Meaning.{Run, Calls, calls_from, calls_of, with_item, Code, turns, fall, doing, and_then, from_call, scoped, called, block, frame_of, ended, Place, does, shifted, count_of, with_args, declare, assign, leave}
 use Rattle.ecd_cast.specs.Kept.{IsNew}
 use Rattle.ecd_cast.specs.Ends.{End, Behind, With, run_to, Ends, Does}
 

@@ -1,14 +1,13 @@
 -- Writes to other blocks, and the first steps of a run.
 use Rattle.std.proofs.Common.{◌≡◌, ℕ, suc, zero, ◌+◌, ◌-◌, ◌≤◌, List, [], ◌∷◌, ◌++◌, refl, ap, sym, ◌∙◌, arith, subst}
-use Rattle.std.specs.Prelude.{Option, Some, None, slice_get, slice_set, ◌≢◌, max, Contains}
+use Rattle.std.specs.Prelude.{Option, Some, None, slice_get, slice_set, ◌≢◌, Contains}
 use Rattle.ecd_cast.specs.declared.tree.Program.{Program}
 use Rattle.ecd_cast.specs.Memory.{Name, Cell, Event, Step, Enters, Leaves, WritesByte, WritesCell, Memory, Block, Bytes, Cells, after, event, with_byte_in, with_cell_in, steps_of, first_steps, most_active}
 use Rattle.ecd_cast.specs.Laws.{Spares, Steps}
-use Rattle.ecd_cast.specs.Kinds.{unless}
-use Rattle.std.specs.Prelude.{nat_eq, map}
+use Rattle.std.specs.Prelude.{nat_eq}
 use Rattle.std.proofs.lemmas.Bool.{eq-eqb}
 use Rattle.std.proofs.Common.{true}
-use Rattle.ecd_cast.specs.Validity.{Fault, IsValid, IsFirstFault, faults_of, depth_fault, faults_from, call_depth_of}
+use Rattle.ecd_cast.specs.Validity.{Fault, IsValid, IsFirstFault, faults_of, call_depth_of}
 
 get_set_other : {X : Type 0} (xs : List X) (k b : ℕ) (x : X) → k ≢ b → slice_get (slice_set xs k x) b ≡ slice_get xs b
 get_set_other [] k b x h = refl

@@ -1,6 +1,6 @@
 -- A valid item stays valid where items are put behind it.
-use Rattle.std.proofs.Common.{◌≡◌, ℕ, ◌+◌, Bool, true, false, List, [], ◌∷◌, ◌++◌, length, refl, ap, sym, ◌∙◌, subst, arith, append_assoc, append-nil, add-zero}
-use Rattle.std.specs.Prelude.{map, flat_map, Option, Some, None, not}
+use Rattle.std.proofs.Common.{◌≡◌, ℕ, ◌+◌, List, [], ◌∷◌, ◌++◌, length, refl, ap, subst, arith, append_assoc, append-nil, add-zero}
+use Rattle.std.specs.Prelude.{flat_map, Option, Some, None, not}
 use Rattle.ecd_cast.specs.declared.tree.Expr.{Expr}
 use Rattle.ecd_cast.specs.declared.tree.Source.{Source}
 use Rattle.ecd_cast.specs.declared.tree.Source.TheVariants.{Value as FromValue, Call as FromCall}
@@ -12,8 +12,8 @@ use Rattle.ecd_cast.specs.declared.tree.CItem.{CItem}
 use Rattle.ecd_cast.specs.declared.tree.CItem.TheVariants.{Struct as AStructDecl, Function as AFunction}
 use Rattle.ecd_cast.specs.Memory.{Name}
 use Rattle.ecd_cast.specs.Meaning.{Place, shifted, count_of, count_in}
-use Rattle.ecd_cast.specs.Kinds.{Kind, ANumber, ATruth, AReadPointer, Known, kind_in, broken_by, broken_as, asked, unless, args_fit, takes}
-use Rattle.ecd_cast.specs.Validity.{Fault, Around, at_place, call_broken, call_later, source_broken, assignable, assigned_kind, is_among, function_named, known_after, in_loop, stmt_faults, row_faults, block_faults, item_faults, faults_from, structs_of, functions_of, params_known}
+use Rattle.ecd_cast.specs.Kinds.{Kind, ANumber, ATruth, Known, kind_in, broken_by, broken_as, asked, unless, args_fit, takes}
+use Rattle.ecd_cast.specs.Validity.{Around, at_place, call_broken, call_later, source_broken, assignable, assigned_kind, is_among, function_named, known_after, stmt_faults, row_faults, block_faults, item_faults, faults_from, structs_of, functions_of, params_known}
 
 pub front_nil : {A : Type 0} (xs ys : List A) → xs ++ ys ≡ [] → xs ≡ []
 front_nil [] ys e = refl

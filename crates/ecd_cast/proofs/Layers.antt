@@ -1,5 +1,5 @@
 -- The definitions on trees, at each form that has parts, with the parts as they stand in the source.
-use Rattle.std.proofs.Common.{◌≡◌, ℕ, ◌+◌, List, [], ◌∷◌, ◌++◌, refl, ap, ◌∙◌, sym}
+use Rattle.std.proofs.Common.{◌≡◌, ◌+◌, List, [], ◌∷◌, ◌++◌, refl, ap, ◌∙◌}
 use Rattle.std.specs.Prelude.{codes}
 use Rattle.ecd_cast.specs.declared.tree.Op.{Op}
 use Rattle.ecd_cast.specs.declared.tree.Expr.{Expr}
@@ -10,8 +10,8 @@ use Rattle.ecd_cast.specs.declared.tree.Stmt.TheVariants.{If, For}
 use Rattle.ecd_cast.specs.declared.tree.Stmt.TheBlock as stmts
 use denote.Hole.Carrier.{hidden}
 use Rattle.ecd_cast.specs.Memory.{Step, Name, Memory}
-use Rattle.ecd_cast.specs.Expressions.{Outcome, Scopes, lookup, binary, given, with_value, load, negated, value_of}
-use Rattle.ecd_cast.specs.Meaning.{Calls, Place, Code, shifted, does, does_row, block, count_of, count_in, scoped, with, on_truth, on_number, turns, and_then, doing, Run}
+use Rattle.ecd_cast.specs.Expressions.{Scopes, lookup, binary, given, with_value, load, negated, value_of}
+use Rattle.ecd_cast.specs.Meaning.{Calls, Place, shifted, does, does_row, block, count_of, count_in, scoped, with, on_truth, on_number, turns, and_then, doing}
 use Rattle.ecd_cast.specs.Laws.{count_all}
 use Rattle.ecd_cast.specs.Spelling.{expr_lexemes, stmt_lexemes, row_lexemes, stmts_lexemes, sign}
 
@@ -81,8 +81,8 @@ lexemes-If t ys ns = λ i. codes "if" ∷ (expr_lexemes t ++ codes "{" ∷ (lexe
 
 pub lexemes-For : (x b : Name) (body : List Stmt) →
     stmt_lexemes (For x b body) ≡
-      codes "for" ∷ codes "(" ∷ codes "uint64_t" ∷ x ∷ codes "=" ∷ codes "0ull" ∷ codes ";" ∷ x ∷ codes "<" ∷ b ∷ codes ";" ∷ x ∷ codes "+=" ∷ codes "1ull" ∷ codes ")" ∷
-      codes "{" ∷ (stmts_lexemes body ++ codes "}" ∷ [])
+    codes "for" ∷ codes "(" ∷ codes "uint64_t" ∷ x ∷ codes "=" ∷ codes "0ull" ∷ codes ";" ∷ x ∷ codes "<" ∷ b ∷ codes ";" ∷ x ∷ codes "+=" ∷ codes "1ull" ∷ codes ")" ∷
+    codes "{" ∷ (stmts_lexemes body ++ codes "}" ∷ [])
 lexemes-For x b body =
     ap (λ ls. codes "for" ∷ codes "(" ∷ codes "uint64_t" ∷ x ∷ codes "=" ∷ codes "0ull" ∷ codes ";" ∷ x ∷ codes "<" ∷ b ∷ codes ";" ∷ x ∷ codes "+=" ∷ codes "1ull" ∷ codes ")" ∷ codes "{" ∷ (ls ++ codes "}" ∷ []))
     (lexemes-hidden body)

@@ -1,14 +1,14 @@
 -- What code answers, statement by statement.
-use Rattle.std.proofs.Common.{◌≡◌, ℕ, zero, suc, ◌+◌, ◌*◌, ◌<◌, ◌≤◌, ◌⊎◌, inl, inr, ⊎_elim, List, [], ◌∷◌, ◌++◌, refl, ap, sym, ◌∙◌, subst, arith, Bool, true, false, append-nil}
+use Rattle.std.proofs.Common.{◌≡◌, ℕ, zero, suc, ◌+◌, ◌*◌, ◌<◌, ◌≤◌, inl, inr, List, [], ◌∷◌, refl, subst, arith, Bool, true, false}
 use Rattle.ecd_cast.specs.declared.tree.Expr.{Expr}
 use Rattle.ecd_cast.specs.declared.tree.Stmt.{Stmt}
 use Rattle.ecd_cast.specs.declared.tree.Stmt.TheVariants.{Number as DeclNumber, Assign, If, For, Return}
 use Rattle.ecd_cast.specs.declared.tree.Source.TheVariants.{Value as FromValue, Call as FromCall}
 use Rattle.ecd_cast.specs.declared.tree.Function.{Function}
-use Rattle.ecd_cast.specs.Memory.{Name, Memory, Value, Num, Truth}
-use Rattle.ecd_cast.specs.Expressions.{Scopes, lookup, given, value_of, Gives}
-use Rattle.ecd_cast.specs.Meaning.{Run, Calls, Place, block, does, called, frame_of, shifted, count_of, with, on_truth, on_number, scoped, turns, Code, declare, assign, leave, fall}
-use Rattle.ecd_cast.specs.Ends.{Ends, Behind, With, Does, Answers}
+use Rattle.ecd_cast.specs.Memory.{Name, Memory, Value, Num}
+use Rattle.ecd_cast.specs.Expressions.{Scopes, lookup, given, Gives}
+use Rattle.ecd_cast.specs.Meaning.{Run, Calls, Place, block, does, called, frame_of, shifted, count_of, turns, Code, declare, assign, leave, fall}
+use Rattle.ecd_cast.specs.Ends.{Ends, Behind, With, Answers}
 use Rattle.ecd_cast.specs.Rules.{Works, Passes, GoesOn, Goes, Is, Tells, Hands}
 use Rattle.ecd_cast.proofs.Calculus.{block_falls, block_returns, call_declares, call_assigns, returns_scoped, ends_called, ends_step, ends_then, returns_then, ends_within, fall_ends}
 use Rattle.ecd_cast.proofs.Layers.{does-If, does-For}
@@ -27,14 +27,18 @@ module _ {calls : Calls} {m : Memory} where
   works_within {body} {env} {P} a b le h = record { run = λ q. answers_within (block calls body q env m) P a b le (h.run q) }
 
   pub return_rule : {e : Expr} {rest : List Stmt} {env : Scopes} {n : ℕ} {P : ℕ → Type 0} → Is e env m n → P n → Works calls m (Return e ∷ rest) env P 1
-  return_rule {e} {rest} {env} {n} {P} v h = record { run = λ p.
-      let here : Ends (does calls (Return e) p env m) (With n) [] 0 = rw v.is (record { events = []; is = refl; wrote = refl; short = omega arith }) in
-      returned (block calls (Return e ∷ rest) p env m) n 1 (block_returns calls (Return e) rest p env m n [] 0 here) P h }
+  return_rule {e} {rest} {env} {n} {P} v h = record {
+    run = λ p.
+        let here : Ends (does calls (Return e) p env m) (With n) [] 0 = rw v.is (record { events = []; is = refl; wrote = refl; short = omega arith }) in
+        returned (block calls (Return e ∷ rest) p env m) n 1 (block_returns calls (Return e) rest p env m n [] 0 here) P h;
+  }
 
   falls_rule : (s : Stmt) (rest : List Stmt) (env env' : Scopes) (P : ℕ → Type 0) (a k : ℕ) → ((p : Place) → Ends (does calls s p env m) (Behind env') [] a) → Works calls m rest env' P k → Works calls m (s ∷ rest) env P (suc (a + k))
-  falls_rule s rest env env' P a k h w = record { run = λ p.
-      let r = w.run (shifted p (count_of s)) in
-      returned (block calls (s ∷ rest) p env m) r.answer (suc (a + k)) (block_falls calls s rest p env m env' (With r.answer) [] [] a k (h p) r.does) P r.has }
+  falls_rule s rest env env' P a k h w = record {
+    run = λ p.
+        let r = w.run (shifted p (count_of s)) in
+        returned (block calls (s ∷ rest) p env m) r.answer (suc (a + k)) (block_falls calls s rest p env m env' (With r.answer) [] [] a k (h p) r.does) P r.has;
+  }
 
   pub let_rule : {x : Name} {e : Expr} {rest : List Stmt} {env : Scopes} {n : ℕ} {P : ℕ → Type 0} {k : ℕ} → Is e env m n → Works calls m rest (declare x (Num n) env) P k → Works calls m (DeclNumber x (FromValue e) ∷ rest) env P (suc k)
   let_rule {x} {e} {rest} {env} {n} {P} {k} v w =
@@ -58,10 +62,12 @@ module _ {calls : Calls} {m : Memory} where
   pub if_rule : {t : Expr} {ys rest : List Stmt} {env : Scopes} {P : ℕ → Type 0} {k : ℕ} (b : Bool) → Tells t env m b → (b ≡ true → Works calls m ys ([] ∷ env) P k) → (b ≡ false → Works calls m rest env P k) → Works calls m (If t ys [] ∷ rest) env P (suc k)
   if_rule {t} {ys} {rest} {env} {P} {k} true v taken passed =
       let w = taken refl in
-      record { run = λ p.
-          let r = w.run (shifted p 1) in
-          let here : Ends (does calls (If t ys []) p env m) (With r.answer) [] k = rw (does-If calls t ys [] p env m, v.tells) (returns_scoped (block calls ys (shifted p 1)) env m r.answer [] k r.does) in
-          returned (block calls (If t ys [] ∷ rest) p env m) r.answer (suc k) (block_returns calls (If t ys []) rest p env m r.answer [] k here) P r.has }
+      record {
+        run = λ p.
+            let r = w.run (shifted p 1) in
+            let here : Ends (does calls (If t ys []) p env m) (With r.answer) [] k = rw (does-If calls t ys [] p env m, v.tells) (returns_scoped (block calls ys (shifted p 1)) env m r.answer [] k r.does) in
+            returned (block calls (If t ys [] ∷ rest) p env m) r.answer (suc k) (block_returns calls (If t ys []) rest p env m r.answer [] k here) P r.has;
+      }
   if_rule {t} {ys} {rest} {env} {P} {k} false v taken passed =
       works_within (suc (0 + k)) (suc k) (one_step k) (falls_rule (If t ys []) rest env env P 0 k (λ p. rw (does-If calls t ys [] p env m, v.tells) (fall_ends env)) (passed refl))
 
@@ -86,10 +92,12 @@ module _ {calls : Calls} {m : Memory} where
   nil_goes {env} {P} {F} h = record { run = λ q. inr (passed_to (block calls [] q env m) env 0 (fall_ends env) F h) }
 
   falls_goes : (s : Stmt) (rest : List Stmt) (env env' : Scopes) (P : ℕ → Type 0) (F : Scopes → Type 0) (a k : ℕ) → ((p : Place) → Ends (does calls s p env m) (Behind env') [] a) → Goes calls m rest env' P F k → Goes calls m (s ∷ rest) env P F (suc (a + k))
-  falls_goes s rest env env' P F a k h w = record { run = λ p. elim (w.run (shifted p (count_of s))) [
+  falls_goes s rest env env' P F a k h w = record {
+    run = λ p. elim (w.run (shifted p (count_of s))) [
       | inl r ↦ inl (returned (block calls (s ∷ rest) p env m) r.answer (suc (a + k)) (block_falls calls s rest p env m env' (With r.answer) [] [] a k (h p) r.does) P r.has)
       | inr r ↦ inr (passed_to (block calls (s ∷ rest) p env m) r.scopes (suc (a + k)) (block_falls calls s rest p env m env' (Behind r.scopes) [] [] a k (h p) r.falls) F r.has)
-    ] }
+    ];
+  }
 
   pub let_goes : {x : Name} {e : Expr} {rest : List Stmt} {env : Scopes} {n : ℕ} {P : ℕ → Type 0} {F : Scopes → Type 0} {k : ℕ} → Is e env m n → Goes calls m rest (declare x (Num n) env) P F k → Goes calls m (DeclNumber x (FromValue e) ∷ rest) env P F (suc (0 + k))
   let_goes {x} {e} {rest} {env} {n} {P} {F} {k} v w = falls_goes (DeclNumber x (FromValue e)) rest env (declare x (Num n) env) P F 0 k (λ p. rw v.is (fall_ends (declare x (Num n) env))) w
@@ -111,10 +119,12 @@ module _ {calls : Calls} {m : Memory} where
       Goes calls m (If t (Return e ∷ []) [] ∷ rest) env P F (suc (1 + k))
   guard_goes {t} {e} {rest} {env} {P} {F} {k} true n v w taken passed =
       let r = return_rule {calls = calls} {m = m} {e = e} {rest = []} {P = P} w (taken refl) in
-      record { run = λ p.
-          let a = r.run (shifted p 1) in
-          let here : Ends (does calls (If t (Return e ∷ []) []) p env m) (With a.answer) [] 1 = rw (does-If calls t (Return e ∷ []) [] p env m, v.tells) (returns_scoped (block calls (Return e ∷ []) (shifted p 1)) env m a.answer [] 1 a.does) in
-          inl (answers_within _ P 2 (suc (1 + k)) (omega arith) (returned (block calls (If t (Return e ∷ []) [] ∷ rest) p env m) a.answer 2 (block_returns calls (If t (Return e ∷ []) []) rest p env m a.answer [] 1 here) P a.has)) }
+      record {
+        run = λ p.
+            let a = r.run (shifted p 1) in
+            let here : Ends (does calls (If t (Return e ∷ []) []) p env m) (With a.answer) [] 1 = rw (does-If calls t (Return e ∷ []) [] p env m, v.tells) (returns_scoped (block calls (Return e ∷ []) (shifted p 1)) env m a.answer [] 1 a.does) in
+            inl (answers_within _ P 2 (suc (1 + k)) (omega arith) (returned (block calls (If t (Return e ∷ []) [] ∷ rest) p env m) a.answer 2 (block_returns calls (If t (Return e ∷ []) []) rest p env m a.answer [] 1 here) P a.has));
+      }
   guard_goes {t} {e} {rest} {env} {P} {F} {k} false n v w taken passed =
       falls_goes (If t (Return e ∷ []) []) rest env env P F 1 k (λ p. rw (does-If calls t (Return e ∷ []) [] p env m, v.tells) (ends_within _ (Behind env) [] 0 1 (omega arith) (fall_ends env))) (passed refl)
 
@@ -143,12 +153,14 @@ module _ {calls : Calls} {m : Memory} where
   pub for_rule : {x b : Name} {body rest : List Stmt} {env : Scopes} {P : ℕ → Type 0} (n k j : ℕ) (I : ℕ → Scopes → Type 0) → given (lookup env b) ≡ Gives (Num n) → I 0 env →
       ((i : ℕ) (env' : Scopes) → i < n → I i env' → Goes calls m body (((x, Num i) ∷ []) ∷ env') P (λ env''. I (i + 1) (leave env'')) k) → ((env' : Scopes) → I n env' → Works calls m rest env' P j) →
       Works calls m (For x b body ∷ rest) env P (suc (n * suc k + j))
-  for_rule {x} {b} {body} {rest} {env} {P} n k j I v start turn behind = record { run = λ p. elim (loop x body n k I P turn n 0 (omega arith) env start (shifted p 1)) [
+  for_rule {x} {b} {body} {rest} {env} {P} n k j I v start turn behind = record {
+    run = λ p. elim (loop x body n k I P turn n 0 (omega arith) env start (shifted p 1)) [
       | inl r ↦
-        let here : Ends (does calls (For x b body) p env m) (With r.answer) [] (n * suc k) = rw (does-For calls x b body p env m, v) r.does in
-        answers_within (block calls (For x b body ∷ rest) p env m) P (suc (n * suc k)) (suc (n * suc k + j)) (omega arith) (returned (block calls (For x b body ∷ rest) p env m) r.answer (suc (n * suc k)) (block_returns calls (For x b body) rest p env m r.answer [] (n * suc k) here) P r.has)
+          let here : Ends (does calls (For x b body) p env m) (With r.answer) [] (n * suc k) = rw (does-For calls x b body p env m, v) r.does in
+          answers_within (block calls (For x b body ∷ rest) p env m) P (suc (n * suc k)) (suc (n * suc k + j)) (omega arith) (returned (block calls (For x b body ∷ rest) p env m) r.answer (suc (n * suc k)) (block_returns calls (For x b body) rest p env m r.answer [] (n * suc k) here) P r.has)
       | inr r ↦
-        let here : Ends (does calls (For x b body) p env m) (Behind r.scopes) [] (n * suc k) = rw (does-For calls x b body p env m, v) r.falls in
-        let w = (behind r.scopes r.has).run (shifted p (count_of (For x b body))) in
-        returned (block calls (For x b body ∷ rest) p env m) w.answer (suc (n * suc k + j)) (block_falls calls (For x b body) rest p env m r.scopes (With w.answer) [] [] (n * suc k) j here w.does) P w.has
-    ] }
+          let here : Ends (does calls (For x b body) p env m) (Behind r.scopes) [] (n * suc k) = rw (does-For calls x b body p env m, v) r.falls in
+          let w = (behind r.scopes r.has).run (shifted p (count_of (For x b body))) in
+          returned (block calls (For x b body ∷ rest) p env m) w.answer (suc (n * suc k + j)) (block_falls calls (For x b body) rest p env m r.scopes (With w.answer) [] [] (n * suc k) j here w.does) P w.has
+    ];
+  }

@@ -1,13 +1,9 @@
 -- Choices and loops, by their parts.
-use Rattle.std.proofs.Common.{◌≡◌, ℕ, suc, ◌+◌, ◌*◌, ◌<◌, List, [], ◌∷◌, true, false, subst, sym, arith}
-use Rattle.ecd_cast.specs.declared.tree.Expr.{Expr}
-use Rattle.ecd_cast.specs.declared.tree.Stmt.{Stmt}
-use Rattle.ecd_cast.specs.declared.tree.Stmt.TheVariants.{If, For}
-use Rattle.ecd_cast.specs.Memory.{Name, Memory, Num, Event}
-use Rattle.ecd_cast.specs.Expressions.{Scopes, Frame, lookup, given, Gives}
-use Rattle.ecd_cast.specs.Meaning.{Calls, Place, Code, block, does, shifted, scoped}
+use Rattle.std.proofs.Common.{ℕ, ◌+◌, List, [], ◌∷◌, arith}
+use Rattle.ecd_cast.specs.Memory.{Memory, Event}
+use Rattle.ecd_cast.specs.Expressions.{Scopes}
+use Rattle.ecd_cast.specs.Meaning.{Code, block, shifted, scoped}
 use Rattle.ecd_cast.specs.Ends.{End, Behind, With, Ends}
-use Rattle.ecd_cast.specs.Rules.{Tells}
 use Rattle.ecd_cast.specs.Laws.{Choice, Repetition, outside, count_all}
 use Rattle.ecd_cast.proofs.Calculus.{ends_scoped, returns_scoped, quiet_loop}
 use Rattle.ecd_cast.proofs.Layers.{does-If, does-For}

@@ -1,5 +1,5 @@
 -- How a run ends, what it writes, and the most steps that it takes.
-use Rattle.std.specs.Prelude.{ℕ, ◌≡◌, ◌≤◌, List, [], ◌∷◌}
+use Rattle.std.specs.Prelude.{ℕ, ◌≡◌, ◌≤◌, List, []}
 use Rattle.ecd_cast.specs.Memory.{Event, writes_of, steps_of}
 use Rattle.ecd_cast.specs.Expressions.{Scopes}
 use Rattle.ecd_cast.specs.Meaning.{Run, Falls, Returns}

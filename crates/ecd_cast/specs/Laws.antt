@@ -1,5 +1,5 @@
 -- Facts about the definitions, as statements.
-use Rattle.std.specs.Prelude.{ℕ, suc, ◌+◌, ◌*◌, ◌≡◌, ◌≢◌, ◌<◌, ◌≤◌, Bool, true, false, List, [], ◌∷◌, ◌++◌, length, slice_get, Contains}
+use Rattle.std.specs.Prelude.{ℕ, suc, ◌+◌, ◌*◌, ◌≡◌, ◌≢◌, ◌<◌, ◌≤◌, true, false, List, [], ◌∷◌, ◌++◌, slice_get}
 use Rattle.ecd_cast.specs.declared.tree.Expr.{Expr}
 use Rattle.ecd_cast.specs.declared.tree.Stmt.{Stmt}
 use Rattle.ecd_cast.specs.declared.tree.Stmt.TheVariants.{If, For, Number as DeclNumber}
@@ -46,11 +46,11 @@ outside (With n) = With n
 -- a choice is the one block or the other
 pub record Choice : Type 0 where
   pub first :
-    (calls : Calls) (t : Expr) (ys ns : List Stmt) (p : Place) (env : Scopes) (m : Memory) (e : End) (ws : List Event) (most : ℕ) →
-    Tells t env m true → Ends (block calls ys (shifted p 1) ([] ∷ env) m) e ws most → Ends (does calls (If t ys ns) p env m) (outside e) ws most
+      (calls : Calls) (t : Expr) (ys ns : List Stmt) (p : Place) (env : Scopes) (m : Memory) (e : End) (ws : List Event) (most : ℕ) →
+      Tells t env m true → Ends (block calls ys (shifted p 1) ([] ∷ env) m) e ws most → Ends (does calls (If t ys ns) p env m) (outside e) ws most
   pub second :
-    (calls : Calls) (t : Expr) (ys ns : List Stmt) (p : Place) (env : Scopes) (m : Memory) (e : End) (ws : List Event) (most : ℕ) →
-    Tells t env m false → Ends (block calls ns (shifted p (1 + count_all ys)) ([] ∷ env) m) e ws most → Ends (does calls (If t ys ns) p env m) (outside e) ws most
+      (calls : Calls) (t : Expr) (ys ns : List Stmt) (p : Place) (env : Scopes) (m : Memory) (e : End) (ws : List Event) (most : ℕ) →
+      Tells t env m false → Ends (block calls ns (shifted p (1 + count_all ys)) ([] ∷ env) m) e ws most → Ends (does calls (If t ys ns) p env m) (outside e) ws most
 
 -- a call whose body returns
 abbrev pub Call : Type 0

@@ -1,5 +1,5 @@
 -- What the functions of a program do.
-use Rattle.std.specs.Prelude.{ℕ, zero, suc, ◌+◌, ◌%◌, Bool, true, false, List, [], ◌∷◌, ◌++◌, Option, Some, None, if◌then◌else◌, bytes_eq, slice_get, length, nat_lt}
+use Rattle.std.specs.Prelude.{ℕ, zero, suc, ◌+◌, ◌%◌, true, false, List, [], ◌∷◌, ◌++◌, Option, Some, None, if◌then◌else◌, bytes_eq, slice_get, length, nat_lt}
 use Rattle.ecd_cast.specs.declared.tree.Expr.{Expr}
 use Rattle.ecd_cast.specs.declared.tree.Source.{Source}
 use Rattle.ecd_cast.specs.declared.tree.Source.TheVariants.{Value as FromValue, Call as FromCall}
@@ -9,7 +9,7 @@ use Rattle.ecd_cast.specs.declared.tree.Param.{Param}
 use Rattle.ecd_cast.specs.declared.tree.Function.{Function}
 use Rattle.ecd_cast.specs.declared.tree.CItem.{CItem}
 use Rattle.ecd_cast.specs.declared.tree.CItem.TheVariants.{Struct as AStruct, Function as AFunction}
-use Rattle.ecd_cast.specs.Memory.{Name, Memory, Block, Bytes, Cells, HoldsNumber, HoldsPointer, Value, Num, Truth, Ptr, Str, Event, Step, Enters, Leaves, WritesByte, WritesCell, after}
+use Rattle.ecd_cast.specs.Memory.{Name, Memory, Block, Bytes, HoldsNumber, HoldsPointer, Value, Num, Truth, Ptr, Str, Event, Step, Enters, Leaves, WritesByte, WritesCell, after}
 use Rattle.ecd_cast.specs.Expressions.{Outcome, Gives, Fails, Frame, Scopes, in_frame, lookup, given, value_of}
 
 -- A run, with all that it did in order. It falls through behind a statement, returns a number, or is stuck at a statement for a reason.

@@ -1,5 +1,5 @@
 -- Memory, and what a run does to it.
-use Rattle.std.specs.Prelude.{ℕ, zero, suc, ◌+◌, Option, Some, None, if◌then◌else◌, bytes_eq, List, [], ◌∷◌, ◌++◌, slice_get, slice_set, max, ◌-◌}
+use Rattle.std.specs.Prelude.{ℕ, zero, suc, ◌+◌, Option, Some, if◌then◌else◌, bytes_eq, List, [], ◌∷◌, slice_get, slice_set, max, ◌-◌}
 pub use Rattle.ecd_cast.specs.declared.value.Cell.{Cell}
 pub use Rattle.ecd_cast.specs.declared.value.Cell.TheVariants.{Unset, Number as HoldsNumber, Bytes as HoldsPointer}
 pub use Rattle.ecd_cast.specs.declared.value.Value.{Value}

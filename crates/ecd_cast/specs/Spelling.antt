@@ -1,6 +1,5 @@
 -- How a text spells a program.
-use Rattle.std.specs.Prelude.{ℕ, ◌≡◌, ◌<◌, ◌^◌, Bool, true, false, ◌&&◌, not, List, [], ◌∷◌, ◌++◌, length, codes, decimal, flat_map}
-use Rattle.std.specs.List.{list_all}
+use Rattle.std.specs.Prelude.{ℕ, ◌≡◌, ◌<◌, ◌^◌, true, List, [], ◌∷◌, ◌++◌, length, codes, decimal, flat_map}
 use Rattle.ecd_cast.specs.declared.tree.Op.{Op}
 use Rattle.ecd_cast.specs.declared.tree.Op.TheVariants.{Add, Sub, Mul, Shl, Shr, BitAnd, BitOr, Eq, Ne, Lt, Le, Gt, Ge, And, Or}
 use Rattle.ecd_cast.specs.declared.tree.Expr.{Expr, Row_of-Expr, end_of-Expr, more_of-Expr}
@@ -13,10 +12,7 @@ use Rattle.ecd_cast.specs.declared.tree.Param.{Param}
 use Rattle.ecd_cast.specs.declared.tree.ParamKind.{ParamKind}
 use Rattle.ecd_cast.specs.declared.tree.ParamKind.TheVariants.{Number as NumberParam, ReadPointer as ReadPointerParam, WritePointer as WritePointerParam, Struct as StructParam}
 use Rattle.ecd_cast.specs.declared.tree.CellInfo.{CellInfo}
-use Rattle.ecd_cast.specs.declared.tree.CellKind.{CellKind}
 use Rattle.ecd_cast.specs.declared.tree.CellKind.TheVariants.{Number as NumberCell, Pointer as PointerCell}
-use Rattle.ecd_cast.specs.declared.tree.StructDecl.{StructDecl}
-use Rattle.ecd_cast.specs.declared.tree.Function.{Function}
 use Rattle.ecd_cast.specs.declared.tree.CItem.{CItem}
 use Rattle.ecd_cast.specs.declared.tree.CItem.TheVariants.{Struct as AStructDecl, Function as AFunction}
 use Rattle.ecd_cast.specs.declared.tree.Program.{Program}
@@ -90,17 +86,17 @@ stmts_lexemes stmts = flat_map stmt_lexemes stmts
 
 abbrev pub param_lexemes : Param → List Lexeme
 param_lexemes q = elim q.kind [
-    | NumberParam ↦ codes "uint64_t" ∷ q.name ∷ []
-    | ReadPointerParam ↦ codes "const" ∷ codes "uint8_t" ∷ codes "*" ∷ q.name ∷ []
-    | WritePointerParam ↦ codes "uint8_t" ∷ codes "*" ∷ q.name ∷ []
-    | StructParam s ↦ codes "struct" ∷ s ∷ codes "*" ∷ q.name ∷ []
-  ]
+  | NumberParam ↦ codes "uint64_t" ∷ q.name ∷ []
+  | ReadPointerParam ↦ codes "const" ∷ codes "uint8_t" ∷ codes "*" ∷ q.name ∷ []
+  | WritePointerParam ↦ codes "uint8_t" ∷ codes "*" ∷ q.name ∷ []
+  | StructParam s ↦ codes "struct" ∷ s ∷ codes "*" ∷ q.name ∷ []
+]
 
 abbrev pub cell_lexemes : CellInfo → List Lexeme
 cell_lexemes c = elim c.kind [
-    | NumberCell ↦ codes "uint64_t" ∷ c.name ∷ codes ";" ∷ []
-    | PointerCell ↦ codes "const" ∷ codes "uint8_t" ∷ codes "*" ∷ c.name ∷ codes ";" ∷ []
-  ]
+  | NumberCell ↦ codes "uint64_t" ∷ c.name ∷ codes ";" ∷ []
+  | PointerCell ↦ codes "const" ∷ codes "uint8_t" ∷ codes "*" ∷ c.name ∷ codes ";" ∷ []
+]
 
 abbrev pub item_lexemes : CItem → List Lexeme
 item_lexemes (AStructDecl s) = codes "struct" ∷ s.name ∷ codes "{" ∷ (flat_map cell_lexemes s.cells ++ codes "}" ∷ codes ";" ∷ [])

@@ -1,5 +1,5 @@
 -- The rules C1 to C7, and where a program breaks them.
-use Rattle.std.specs.Prelude.{ℕ, ◌+◌, ◌≡◌, ◌<◌, ◌⊎◌, Bool, true, false, not, ◌&&◌, ◌||◌, if◌then◌else◌, List, [], ◌∷◌, ◌++◌, flat_map, map, Contains, Option, Some, None, bytes_eq, nat_eq, length, max, codes}
+use Rattle.std.specs.Prelude.{ℕ, ◌+◌, ◌≡◌, ◌<◌, ◌⊎◌, Bool, true, false, not, ◌&&◌, ◌||◌, if◌then◌else◌, List, [], ◌∷◌, ◌++◌, flat_map, map, Contains, Option, Some, None, bytes_eq, nat_eq, length, max}
 use Rattle.std.specs.List.{list_any}
 use Rattle.ecd_cast.specs.declared.tree.Expr.{Expr}
 use Rattle.ecd_cast.specs.declared.tree.Source.{Source}
@@ -9,7 +9,6 @@ use Rattle.ecd_cast.specs.declared.tree.Stmt.TheVariants.{Number as DeclNumber, 
 use Rattle.ecd_cast.specs.declared.tree.Param.{Param}
 use Rattle.ecd_cast.specs.declared.tree.ParamKind.{ParamKind}
 use Rattle.ecd_cast.specs.declared.tree.ParamKind.TheVariants.{Number as NumberParam, ReadPointer as ReadPointerParam, WritePointer as WritePointerParam, Struct as StructParam}
-use Rattle.ecd_cast.specs.declared.tree.CellInfo.{CellInfo}
 use Rattle.ecd_cast.specs.declared.tree.StructDecl.{StructDecl}
 use Rattle.ecd_cast.specs.declared.tree.Function.{Function}
 use Rattle.ecd_cast.specs.declared.tree.CItem.{CItem}
@@ -17,7 +16,7 @@ use Rattle.ecd_cast.specs.declared.tree.CItem.TheVariants.{Struct as AStructDecl
 use Rattle.ecd_cast.specs.declared.tree.Program.{Program}
 use Rattle.ecd_cast.specs.Memory.{Name}
 use Rattle.ecd_cast.specs.Meaning.{Place, shifted, count_of, count_in}
-use Rattle.ecd_cast.specs.Kinds.{Kind, ANumber, ATruth, AReadPointer, AWritePointer, AStruct, Unknown, takes, Known, kind_in, kind_of, member, broken_by, broken_as, asked, asked_cell, unless, args_fit, param_kind}
+use Rattle.ecd_cast.specs.Kinds.{Kind, ANumber, ATruth, AReadPointer, AWritePointer, Unknown, takes, Known, kind_in, member, broken_by, broken_as, asked, asked_cell, unless, args_fit, param_kind}
 
 -- a broken rule: C1 is 1, and so on
 pub record Fault : Type 0 where

@@ -34,11 +34,7 @@ pub fn load(alloc: Global, text: &[u8], index: Expr) -> Result<Expr, OutOfMemory
 pub fn binary(alloc: Global, op: Op, left: Expr, right: Expr) -> Result<Expr, OutOfMemory>
     ensures { IfOk result (λ e. e ≡ ABinary op left right) }
 {
-    Ok(Expr::Binary(
-        op,
-        Boxed::new(alloc, left)?,
-        Boxed::new(alloc, right)?,
-    ))
+    Ok(Expr::Binary(op, Boxed::new(alloc, left)?, Boxed::new(alloc, right)?))
 }
 
 /// A list of one.

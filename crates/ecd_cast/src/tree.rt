@@ -6,9 +6,13 @@ use ecd_list::{Boxed, ByteList, List};
 pub type Name = ByteList;
 
 pub type ExprList = List<Expr>;
+
 pub type StmtList = List<Stmt>;
+
 pub type ParamList = List<Param>;
+
 pub type CellInfoList = List<CellInfo>;
+
 pub type CItemList = List<CItem>;
 
 /// An operator between two operands, one for each sign of the grammar.
@@ -75,19 +79,44 @@ pub enum Source {
 #[derive(Debug, Drop)]
 pub enum Stmt {
     /// `uint64_t name = from;`
-    Number { name: Name, from: Source },
+    Number {
+        name: Name,
+        from: Source,
+    },
     /// `const uint8_t *name = from;`
-    Pointer { name: Name, from: Expr },
+    Pointer {
+        name: Name,
+        from: Expr,
+    },
     /// `name = from;`
-    Assign { name: Name, from: Source },
+    Assign {
+        name: Name,
+        from: Source,
+    },
     /// `name[index] = (uint8_t)from;`
-    Store { name: Name, index: Expr, from: Expr },
+    Store {
+        name: Name,
+        index: Expr,
+        from: Expr,
+    },
     /// `name->cell = from;`
-    SetCell { name: Name, cell: Name, from: Expr },
+    SetCell {
+        name: Name,
+        cell: Name,
+        from: Expr,
+    },
     /// `if test { yes } else { no }`
-    If { test: Expr, yes: StmtList, no: StmtList },
+    If {
+        test: Expr,
+        yes: StmtList,
+        no: StmtList,
+    },
     /// `for (uint64_t name = 0ull; name < bound; name += 1ull) { body }`
-    For { name: Name, bound: Name, body: StmtList },
+    For {
+        name: Name,
+        bound: Name,
+        body: StmtList,
+    },
     /// `return from;`
     Return(Expr),
 }

@@ -1,17 +1,16 @@
 -- The reader of one number is valid and reads that number.
-use Rattle.std.proofs.Common.{◌≡◌, ℕ, zero, suc, ◌+◌, ◌<◌, ◌≤◌, ◌^◌, List, [], ◌∷◌, ◌++◌, length, refl, ap, sym, ◌∙◌, arith, subst, add-zero, get_or, ⊎_elim, Bool, true, false, rules}
-use Rattle.std.specs.Prelude.{◌≢◌, nat_lt, nat_eq, codes, slice_get, Option, Some, None, ◌⊎◌}
+use Rattle.std.proofs.Common.{◌≡◌, ℕ, ◌+◌, ◌<◌, ◌≤◌, ◌^◌, List, [], ◌∷◌, length, refl, ap, sym, ◌∙◌, arith, subst, add-zero, get_or, ⊎_elim, Bool, true, false, rules}
+use Rattle.std.specs.Prelude.{◌≢◌, nat_lt, nat_eq, codes, slice_get, Some}
 use Rattle.std.proofs.lemmas.Bool.{cases_lt, lt-ltb, le-ltb, eq-eqb, eqb-true}
 use Rattle.std.proofs.lemmas.Option.{slice_get-get_or}
 use denote.Hole.Carrier.{hidden}
 use Rattle.ecd_cast.specs.declared.tree.Program.{Program}
-use Rattle.ecd_cast.specs.declared.tree.CItem.{CItem}
 use Rattle.ecd_cast.specs.declared.tree.CItem.TheVariants.{Struct as AStructDecl, Function as AFunction}
 use Rattle.ecd_cast.specs.declared.tree.Expr.TheBlock as exprs
 use Rattle.ecd_cast.specs.declared.tree.Stmt.TheBlock as stmts
 use Rattle.ecd_cast.specs.declared.value.Cell.TheVariants.{Number as HoldsNumber}
 use Rattle.ecd_cast.specs.Memory.{Step, Enters, Leaves, WritesCell, Bytes, Memory}
-use Rattle.ecd_cast.specs.Meaning.{calls_of, Run, Returns}
+use Rattle.ecd_cast.specs.Meaning.{Returns}
 use Rattle.ecd_cast.specs.Validity.{IsValidAfter, item_calls, call_depth_of}
 use Rattle.ecd_cast.specs.Spelling.{IsSpelledItem}
 use Rattle.ecd_compile.specs.Reader.{reader_items, reader, unit_struct}

@@ -24,11 +24,11 @@ reading items block offset len out m = calls_of items (codes "read_0") (Ptr bloc
 -- on every buffer, from any offset of its block, read_0 takes the one byte n and sets unit to 0, and else returns 0 and writes nothing
 pub record ReadsByte (n : ℕ) (p : Program) : Type 0 where
   pub takes :
-    (block offset len out : ℕ) (m : Memory) (bytes : List ℕ) → slice_get m block ≡ Some (Bytes bytes) → offset + len ≤ length bytes → len < 2 ^ 62 →
-    1 ≤ len → slice_get bytes offset ≡ Some n → Gives (reading p.items block offset len out m) 1 (WritesCell out (codes "unit") (HoldsNumber 0) ∷ []) p.depth
+      (block offset len out : ℕ) (m : Memory) (bytes : List ℕ) → slice_get m block ≡ Some (Bytes bytes) → offset + len ≤ length bytes → len < 2 ^ 62 →
+      1 ≤ len → slice_get bytes offset ≡ Some n → Gives (reading p.items block offset len out m) 1 (WritesCell out (codes "unit") (HoldsNumber 0) ∷ []) p.depth
   pub refuses :
-    (block offset len out : ℕ) (m : Memory) (bytes : List ℕ) → slice_get m block ≡ Some (Bytes bytes) → offset + len ≤ length bytes → len < 2 ^ 62 →
-    (1 ≤ len → slice_get bytes offset ≢ Some n) → Gives (reading p.items block offset len out m) 0 [] p.depth
+      (block offset len out : ℕ) (m : Memory) (bytes : List ℕ) → slice_get m block ≡ Some (Bytes bytes) → offset + len ≤ length bytes → len < 2 ^ 62 →
+      (1 ≤ len → slice_get bytes offset ≢ Some n) → Gives (reading p.items block offset len out m) 0 [] p.depth
 
 -- the schema is thin, with a number that the program reads, and the text spells the program, which is valid
 pub record IsCompiled (schema root text : List ℕ) (p : Program) : Type 0 where

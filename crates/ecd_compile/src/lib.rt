@@ -49,12 +49,7 @@ impl From<OutOfMemory> for Refusal {
 /// # Errors
 ///
 /// `NotBuilt` exactly where the schema is not `root = number` with a letter a to z and a number from 0 to 23.
-pub fn compile(
-    alloc: Global,
-    schema: &[u8],
-    root: &str,
-    depth: u8,
-) -> Result<Compiled, Refusal>
+pub fn compile(alloc: Global, schema: &[u8], root: &str, depth: u8) -> Result<Compiled, Refusal>
     requires { depth ≤ 32 }
     ensures compiled { IfOk result (λ c. IsCompiled schema.now root.now c.text c.program) }
     ensures not_built { IsErrOf result Refusal.NotBuilt → IsNotThin schema.now root.now }
@@ -66,4 +61,41 @@ pub fn compile(
     let program = reader(alloc, number)?;
     let text = print(alloc, &program)?;
     Ok(Compiled { text, program })
+}
+
+#[cfg(test)]
+mod tests {
+    use super::*;
+    use std::test::Fail;
+
+    #[test]
+    fn a_rule_with_a_small_number_is_compiled(rt: HostRuntime) -> Result<(), Fail> {
+        for (schema, root, compiles) in [
+            ("x = 5", "x", true),
+            ("x = 5\n", "x", true),
+            ("z = 23", "z", true),
+            ("a = 0", "a", true),
+            ("x = 24", "x", false),
+            ("x = 05", "x", false),
+            ("x = 5\n\n", "x", false),
+            ("x = 5 ", "x", false),
+            ("x = 5", "y", false),
+            ("X = 5", "X", false),
+            ("xy = 5", "xy", false),
+            ("", "x", false),
+        ] {
+            match compile(rt.alloc(), schema.as_bytes(), root, 0) {
+                Ok(compiled) => {
+                    assert!(rt; compiles, "{schema:?} is compiled");
+                    assert!(rt; compiled.text.as_slice().ends_with(b"}\n"));
+                    assert_eq!(rt; compiled.program.call_depth(), 1);
+                }
+                Err(refusal) => {
+                    assert!(rt; !compiles, "{schema:?} is refused");
+                    assert_eq!(rt; refusal, Refusal::NotBuilt);
+                }
+            }
+        }
+        Ok(())
+    }
 }

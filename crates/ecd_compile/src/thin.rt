@@ -41,11 +41,7 @@ fn is_rule(alloc: Global, schema: &[u8], root: &str, number: u8) -> Result<bool,
 }
 
 /// The number of a schema `root = number`, where the root is a letter a to z and the number is at most 23.
-pub fn thin_number(
-    alloc: Global,
-    schema: &[u8],
-    root: &str,
-) -> Result<Option<u8>, OutOfMemory>
+pub fn thin_number(alloc: Global, schema: &[u8], root: &str) -> Result<Option<u8>, OutOfMemory>
     ensures { IfOk result (λ o. IsNumberOf schema.now root.now o) }
 {
     let [letter] = root.as_bytes() else {

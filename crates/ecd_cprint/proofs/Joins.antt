@@ -1,11 +1,11 @@
 -- What keeps lexemes apart.
-use Rattle.std.proofs.Common.{◌≡◌, ℕ, zero, suc, ◌+◌, ◌-◌, ◌<◌, ◌≤◌, Bool, true, false, ◌||◌, ◌&&◌, List, [], ◌∷◌, ◌++◌, length, refl, ap, sym, ◌∙◌, subst, arith, append_assoc, length-append, append-nil, take}
-use Rattle.std.specs.Prelude.{nat_eq, nat_le, codes, slice_get, Option, Some, None, bytes_eq, if◌then◌else◌, not}
+use Rattle.std.proofs.Common.{◌≡◌, ℕ, zero, suc, ◌-◌, ◌<◌, Bool, true, false, ◌||◌, ◌&&◌, List, [], ◌∷◌, ◌++◌, length, refl, ap, sym, ◌∙◌, subst, arith, append_assoc, length-append, append-nil, take}
+use Rattle.std.specs.Prelude.{nat_eq, codes, slice_get, Option, Some, None, bytes_eq, if◌then◌else◌, not}
 use Rattle.std.specs.List.{list_all, list_any}
 use Rattle.std.proofs.lemmas.List.Folds.{list_all-append}
 use Rattle.std.proofs.lemmas.Slice.Eq.{bytes_eq-Decides}
 use Rattle.std.proofs.lemmas.Bool.{eqb-true}
-use Rattle.ecd_cast.specs.Lexemes.{Lexeme, Laid, IsLongest, is_lexeme, is_word, is_digits, is_literal, digits_and_ull, is_sign, is_one_sign, is_pair_sign, is_word_byte, begins_word, is_digit, is_blank}
+use Rattle.ecd_cast.specs.Lexemes.{Lexeme, Laid, IsLongest, is_lexeme, is_word, is_digits, is_literal, digits_and_ull, is_sign, is_pair_sign, is_word_byte, begins_word, is_digit, is_blank}
 use Rattle.ecd_cast.specs.Spelling.{first_line, program_lexemes, Spells}
 use Rattle.ecd_cast.specs.declared.tree.Program.{Program}
 use Rattle.ecd_cprint.specs.Layout.{may_join, seam, last_byte, first_byte, Extends, AreLexemes, Grows, IsGap}
@@ -197,22 +197,24 @@ extends_put before text gap (a ∷ l) h g e = record {
   body = e.body ++ (gap ++ a ∷ l);
   begins = ap (λ (t : List ℕ). t ++ (gap ++ a ∷ l)) e.begins ∙ append_assoc first_line e.body (gap ++ a ∷ l);
   more = λ next rest apart laid.
-    let behind = last_after (text ++ gap) l a in
-    let glued : text ++ (gap ++ a ∷ l) ≡ (text ++ gap) ++ a ∷ l = sym (append_assoc text gap (a ∷ l)) in
-    let same : last_byte (text ++ (gap ++ a ∷ l)) ≡ last_byte (a ∷ l) = ap last_byte glued ∙ behind in
-    let free : seam (last_byte (a ∷ l)) (first_byte rest) ≡ false = ap (λ (o : Option ℕ). seam o (first_byte rest)) (sym same) ∙ apart in
-    let here : Laid ((a ∷ l) ∷ next) ((gap ++ a ∷ l) ++ rest) = (gap, rest, g.blank, append_assoc gap (a ∷ l) rest, longest (a ∷ l) rest h free, laid) in
-    let front : seam (last_byte text) (first_byte ((gap ++ a ∷ l) ++ rest)) ≡ false = ap (λ (o : Option ℕ). seam (last_byte text) o) (first_before gap l rest a) ∙ g.apart in
-    let all = e.more ((a ∷ l) ∷ next) ((gap ++ a ∷ l) ++ rest) front here in
-    let lists : before ++ ((a ∷ l) ∷ next) ≡ (before ++ (a ∷ l) ∷ []) ++ next = sym (append_assoc before ((a ∷ l) ∷ []) next) in
-    let texts : e.body ++ ((gap ++ a ∷ l) ++ rest) ≡ (e.body ++ (gap ++ a ∷ l)) ++ rest = sym (append_assoc e.body (gap ++ a ∷ l) rest) in
-    subst (λ (ls : List Lexeme). Laid ls ((e.body ++ (gap ++ a ∷ l)) ++ rest)) lists (subst (λ (t : List ℕ). Laid (before ++ ((a ∷ l) ∷ next)) t) texts all);
+      let behind = last_after (text ++ gap) l a in
+      let glued : text ++ (gap ++ a ∷ l) ≡ (text ++ gap) ++ a ∷ l = sym (append_assoc text gap (a ∷ l)) in
+      let same : last_byte (text ++ (gap ++ a ∷ l)) ≡ last_byte (a ∷ l) = ap last_byte glued ∙ behind in
+      let free : seam (last_byte (a ∷ l)) (first_byte rest) ≡ false = ap (λ (o : Option ℕ). seam o (first_byte rest)) (sym same) ∙ apart in
+      let here : Laid ((a ∷ l) ∷ next) ((gap ++ a ∷ l) ++ rest) = (gap, rest, g.blank, append_assoc gap (a ∷ l) rest, longest (a ∷ l) rest h free, laid) in
+      let front : seam (last_byte text) (first_byte ((gap ++ a ∷ l) ++ rest)) ≡ false = ap (λ (o : Option ℕ). seam (last_byte text) o) (first_before gap l rest a) ∙ g.apart in
+      let all = e.more ((a ∷ l) ∷ next) ((gap ++ a ∷ l) ++ rest) front here in
+      let lists : before ++ ((a ∷ l) ∷ next) ≡ (before ++ (a ∷ l) ∷ []) ++ next = sym (append_assoc before ((a ∷ l) ∷ []) next) in
+      let texts : e.body ++ ((gap ++ a ∷ l) ++ rest) ≡ (e.body ++ (gap ++ a ∷ l)) ++ rest = sym (append_assoc e.body (gap ++ a ∷ l) rest) in
+      subst (λ (ls : List Lexeme). Laid ls ((e.body ++ (gap ++ a ∷ l)) ++ rest)) lists (subst (λ (t : List ℕ). Laid (before ++ ((a ∷ l) ∷ next)) t) texts all);
 }
 
 pub grows_put : (old new gap l : List ℕ) → IsGap old l gap → new ≡ (old ++ gap) ++ l → Grows old new (l ∷ [])
-grows_put old new gap l g e = record { goes_on = λ are before x.
-    let grown = extends_put before old gap l are.0 g x in
-    subst (λ (t : List ℕ). Extends (before ++ l ∷ []) t) (sym (append_assoc old gap l) ∙ sym e) grown }
+grows_put old new gap l g e = record {
+  goes_on = λ are before x.
+      let grown = extends_put before old gap l are.0 g x in
+      subst (λ (t : List ℕ). Extends (before ++ l ∷ []) t) (sym (append_assoc old gap l) ∙ sym e) grown;
+}
 
 -- ---- lists of lexemes
 
@@ -221,9 +223,11 @@ are_append [] ys h = (tt, h)
 are_append (x ∷ xs) ys h = let r = are_append xs ys h.1 in ((h.0, r.0), r.1)
 
 pub grows_then : {a b c : List ℕ} {x y : List Lexeme} → Grows a b x → Grows b c y → Grows a c (x ++ y)
-grows_then {a} {b} {c} {x} {y} h k = record { goes_on = λ are before e.
-    let r = are_append x y are in
-    subst (λ (ls : List Lexeme). Extends ls c) (append_assoc before x y) (k.goes_on r.1 (before ++ x) (h.goes_on r.0 before e)) }
+grows_then {a} {b} {c} {x} {y} h k = record {
+  goes_on = λ are before e.
+      let r = are_append x y are in
+      subst (λ (ls : List Lexeme). Extends ls c) (append_assoc before x y) (k.goes_on r.1 (before ++ x) (h.goes_on r.0 before e));
+}
 
 pub grows_none : (a : List ℕ) → Grows a a []
 grows_none a = record { goes_on = λ are before e. subst (λ (ls : List Lexeme). Extends ls a) (sym (append-nil before)) e }

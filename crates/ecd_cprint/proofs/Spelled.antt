@@ -1,8 +1,8 @@
 -- The lexemes of a tree that has a spelling are lexemes.
-use Rattle.std.proofs.Common.{◌≡◌, ℕ, zero, suc, ◌+◌, ◌<◌, ◌≤◌, ◌^◌, ◌⊎◌, ⊎_elim, Bool, true, false, ◌||◌, ◌&&◌, List, [], ◌∷◌, ◌++◌, length, get_or, refl, ap, sym, ◌∙◌, subst, arith, append-nil}
-use Rattle.std.specs.Prelude.{codes, decimal, flat_map, nat_eq, nat_le, not, bytes_eq, if◌then◌else◌}
+use Rattle.std.proofs.Common.{◌≡◌, ℕ, zero, suc, ◌<◌, ◌^◌, Bool, true, false, ◌||◌, ◌&&◌, List, [], ◌∷◌, ◌++◌, length, get_or, refl, ap, sym, subst, arith}
+use Rattle.std.specs.Prelude.{codes, decimal, flat_map, nat_eq, nat_le, not, bytes_eq}
 use Rattle.std.specs.List.{list_all}
-use Rattle.std.specs.Str.Parse.{IsNumeral, AllDigits}
+use Rattle.std.specs.Str.Parse.{AllDigits}
 use Rattle.std.proofs.lemmas.Fmt.{decimal_digit, decimal_is_IsNumeral, first_decimal}
 use Rattle.std.proofs.lemmas.Str.Parse.{digit_at}
 use Rattle.std.proofs.lemmas.Bool.{le-leb, eqb-true}
@@ -24,8 +24,8 @@ use Rattle.ecd_cast.specs.declared.tree.CellKind.TheVariants.{Number as NumberCe
 use Rattle.ecd_cast.specs.declared.tree.CItem.{CItem}
 use Rattle.ecd_cast.specs.declared.tree.CItem.TheVariants.{Struct as AStructDecl, Function as AFunction}
 use Rattle.ecd_cast.specs.Memory.{Name}
-use Rattle.ecd_cast.specs.Lexemes.{Lexeme, is_lexeme, is_word, is_name, is_reserved, is_digits, is_literal, digits_and_ull, is_sign, is_digit}
-use Rattle.ecd_cast.specs.Spelling.{IsName, IsLiteral, sign, literal, expr_lexemes, operand_lexemes, source_lexemes, stmt_lexemes, row_lexemes, stmts_lexemes, param_lexemes, cell_lexemes, item_lexemes, with_commas, program_lexemes, IsSpelledExpr, IsSpelledOperand, AreSpelled, IsSpelledSource, IsSpelledStmt, IsSpelledRow, IsSpelledBlock, IsSpelledParamKind, AreSpelledParams, AreSpelledCells, IsSpelledItem, AreSpelledItems, IsSpelledProgram}
+use Rattle.ecd_cast.specs.Lexemes.{Lexeme, is_lexeme, is_word, is_reserved, is_digits, is_literal, digits_and_ull, is_sign, is_digit}
+use Rattle.ecd_cast.specs.Spelling.{IsName, sign, literal, expr_lexemes, operand_lexemes, source_lexemes, stmt_lexemes, row_lexemes, stmts_lexemes, param_lexemes, cell_lexemes, item_lexemes, with_commas, program_lexemes, IsSpelledExpr, IsSpelledOperand, AreSpelled, IsSpelledSource, IsSpelledStmt, IsSpelledRow, IsSpelledBlock, IsSpelledParamKind, AreSpelledParams, AreSpelledCells, IsSpelledItem, AreSpelledItems, IsSpelledProgram}
 use Rattle.ecd_cprint.specs.Layout.{AreLexemes}
 
 -- ---- numbers

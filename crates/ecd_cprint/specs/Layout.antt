@@ -1,5 +1,5 @@
 -- A text that grows lexeme by lexeme.
-use Rattle.std.specs.Prelude.{ℕ, ◌-◌, ◌<◌, ◌≡◌, Bool, true, false, ◌&&◌, ◌||◌, nat_eq, List, [], ◌∷◌, ◌++◌, length, slice_get, Option, Some, None}
+use Rattle.std.specs.Prelude.{ℕ, ◌-◌, ◌≡◌, Bool, true, false, ◌&&◌, ◌||◌, List, [], ◌∷◌, ◌++◌, length, slice_get, Option, Some, None}
 use Rattle.std.specs.List.{list_all}
 use Rattle.ecd_cast.specs.Spelling.{first_line}
 use Rattle.ecd_cast.specs.Lexemes.{Lexeme, Laid, is_word_byte, is_pair_sign, is_lexeme, is_blank}

@@ -31,12 +31,7 @@ fn sign_of(op: Op) -> &'static [u8]
     }
 }
 
-fn print_number(
-    alloc: Global,
-    out: &mut Layout,
-    gap: Gap,
-    number: u64,
-) -> Result<(), OutOfMemory>
+fn print_number(alloc: Global, out: &mut Layout, gap: Gap, number: u64) -> Result<(), OutOfMemory>
     ensures { OnOk result (Grows out.old.text.items out.new.text.items (literal number ∷ [])) }
 {
     let text = format!(in alloc; "{number}ull")?;
@@ -44,12 +39,7 @@ fn print_number(
 }
 
 /// Puts an expression behind the text.
-pub fn print_expr(
-    alloc: Global,
-    out: &mut Layout,
-    gap: Gap,
-    expr: &Expr,
-) -> Result<(), OutOfMemory>
+pub fn print_expr(alloc: Global, out: &mut Layout, gap: Gap, expr: &Expr) -> Result<(), OutOfMemory>
     ensures { OnOk result (Grows out.old.text.items out.new.text.items (expr_lexemes expr.now)) }
 {
     match expr {

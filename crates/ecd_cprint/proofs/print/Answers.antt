@@ -12,7 +12,7 @@ returns c =
     let p = c.args.program.now in
     let start = ap (λ v. v.items) c.new-out.ensures ∙ c.in_ok-from_slice.ensures.items in
     let grew : Grows first_line text (program_lexemes p) =
-        subst (λ (q : Program). Grows first_line text (program_lexemes q)) c.program.ensures.same
-        (subst (λ (t : List ℕ). Grows t text (program_lexemes c.program.result.now)) start c.in_ok-print_program.ensures) in
+    subst (λ (q : Program). Grows first_line text (program_lexemes q)) c.program.ensures.same
+    (subst (λ (t : List ℕ). Grows t text (program_lexemes c.program.result.now)) start c.in_ok-print_program.ensures) in
     let whole : Spells p (text ++ 10 ∷ []) = spelled p text (program_are p c.program.ensures.spelled) grew in
     subst (λ (t : List ℕ). Spells p t) (sym (c.from_vec.ensures ∙ (c.in_ok-push.ensures.items ∙ ap (λ v. v.items ++ 10 ∷ []) c.into_text-text.ensures))) whole

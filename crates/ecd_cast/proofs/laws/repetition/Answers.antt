@@ -1,5 +1,4 @@
 use Rattle.ecd_cast.proofs.Shapes.{repetition}
-use Rattle.ecd_cast.proofs.Rules.{for_rule}
 use Rattle.ecd_cast.proofs.laws.repetition.Goals as goal
 
 pub returns : goal.returns

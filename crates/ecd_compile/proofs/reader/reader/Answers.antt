@@ -1,11 +1,11 @@
-use Rattle.std.proofs.Common.{◌≡◌, [], ◌∷◌, ◌++◌, ◌∙◌, ap, sym, subst, List, ℕ, false, arith}
+use Rattle.std.proofs.Common.{◌≡◌, [], ◌∷◌, ◌++◌, ◌∙◌, ap, sym, subst, List, false, arith}
 use Rattle.ecd_cast.specs.declared.tree.CItem.{CItem}
 use Rattle.ecd_cast.specs.declared.tree.CItem.TheVariants.{Struct as AStructDecl, Function as AFunction}
 use Rattle.ecd_cast.specs.declared.tree.Function.{Function}
 use Rattle.ecd_cast.specs.declared.tree.StructDecl.{StructDecl}
 use Rattle.ecd_cast.specs.Validity.{IsValidAfter, item_calls, call_depth_of}
 use Rattle.ecd_cast.specs.Spelling.{IsSpelledItem}
-use Rattle.ecd_compile.specs.Reader.{unit_struct, reader_items, reader}
+use Rattle.ecd_compile.specs.Reader.{unit_struct, reader_items}
 use Rattle.ecd_compile.proofs.ByteReader.{reader_reads, reader_valid, reader_spelled, reader_calls}
 use Rattle.ecd_compile.proofs.reader.reader.Goals as goal
 
@@ -28,5 +28,5 @@ pub returns : goal.returns
 returns c =
     let items = first c.new-builder.result c.push.new.self c.in_ok-unit_struct.field-0 c.in_ok-push.ensures.ok c.new-builder.ensures c.in_ok-unit_struct.ensures in
     let all : c.push-2.new.self ≡ reader_items c.args.number =
-        c.in_ok-push-2.ensures.ok ∙ (ap (λ (l : List CItem). l ++ AFunction c.in_ok-function.field-0 ∷ []) items ∙ ap (λ (f : Function). AStructDecl unit_struct ∷ (AFunction f ∷ [])) c.in_ok-function.ensures) in
+    c.in_ok-push-2.ensures.ok ∙ (ap (λ (l : List CItem). l ++ AFunction c.in_ok-function.field-0 ∷ []) items ∙ ap (λ (f : Function). AStructDecl unit_struct ∷ (AFunction f ∷ [])) c.in_ok-function.ensures) in
     reader_reads c.args.number c.finish.result (c.finish.ensures.items ∙ all) (c.finish.ensures.depth ∙ ap call_depth_of (sym c.finish.ensures.items))

@@ -1,5 +1,5 @@
 use Rattle.std.specs.Prelude.{codes}
-use Rattle.std.proofs.Common.{◌∷◌, arith}
+use Rattle.std.proofs.Common.{◌∷◌}
 use Rattle.ecd_cast.specs.Spelling.{expr_lexemes}
 use Rattle.ecd_cprint.proofs.Joins.{grows_then}
 use Rattle.ecd_cprint.proofs.Loops.{grows_more, grows_commas}

@@ -4,4 +4,4 @@ use Rattle.ecd_cprint.proofs.statements.print_loop_end.Goals as goal
 pub returns : goal.returns
 returns c =
     grows_then c.in_ok-put.ensures (grows_then c.in_ok-put-2.ensures (grows_then c.in_ok-put-3.ensures (grows_then c.in_ok-put-4.ensures
-      (grows_then c.in_ok-put-5.ensures (grows_then c.in_ok-put-6.ensures (grows_then c.in_ok-put-7.ensures c.in_ok-put-8.ensures))))))
+    (grows_then c.in_ok-put-5.ensures (grows_then c.in_ok-put-6.ensures (grows_then c.in_ok-put-7.ensures c.in_ok-put-8.ensures))))))

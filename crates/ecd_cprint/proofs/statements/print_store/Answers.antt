@@ -4,4 +4,4 @@ use Rattle.ecd_cprint.proofs.statements.print_store.Goals as goal
 pub returns : goal.returns
 returns c =
     grows_then c.in_ok-put.ensures (grows_then c.in_ok-put_before.ensures (grows_then c.in_ok-print_expr.ensures (grows_then c.in_ok-put-2.ensures (grows_then c.in_ok-put-3.ensures
-      (grows_then c.in_ok-put_before-2.ensures (grows_then c.in_ok-put-4.ensures (grows_then c.in_ok-put_before-3.ensures (grows_then c.in_ok-print_expr-2.ensures c.in_ok-put-5.ensures))))))))
+    (grows_then c.in_ok-put_before-2.ensures (grows_then c.in_ok-put-4.ensures (grows_then c.in_ok-put_before-3.ensures (grows_then c.in_ok-print_expr-2.ensures c.in_ok-put-5.ensures))))))))
