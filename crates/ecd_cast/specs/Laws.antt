@@ -28,9 +28,10 @@ MeaningIsKept = (items more : List CItem) (g : Name) (vs : List Value) (m : Memo
 abbrev pub ValidityIsKept : Type 0
 ValidityIsKept = (before : List CItem) (i : CItem) (from more : List CItem) (at : ℕ) → item_faults before i from at ≡ [] → item_faults before i more at ≡ []
 
--- a valid program has no first fault
-abbrev pub ValidHasNoFault : Type 0
-ValidHasNoFault = (p : Program) (f : Fault) → IsValid p → IsFirstFault p f → ⊥
+-- a valid program has no first fault, and every program at most one
+pub record FirstFault : Type 0 where
+  pub none : (p : Program) (f : Fault) → IsValid p → IsFirstFault p f → ⊥
+  pub one : (p : Program) (f g : Fault) → IsFirstFault p f → IsFirstFault p g → f ≡ g
 
 -- a statement that falls through, and those behind it
 abbrev pub Sequence : Type 0

@@ -271,10 +271,15 @@ pub record IsValid (p : Program) : Type 0 where
   pub sound : faults_from [] p.items 0 ≡ []
   pub depth : p.depth ≡ call_depth_of p.items
 
--- the first broken rule: by item, then statement, then rule, and C7 last
-pub record IsBefore (a b : Fault) : Type 0 where
-  pub order : ((a.rule < 7) × (b.rule ≡ 7)) ⊎ ((a.item < b.item) ⊎ ((a.item ≡ b.item) × ((a.statement < b.statement) ⊎ ((a.statement ≡ b.statement) × (a.rule < b.rule)))))
+-- the order of faults: by item, then statement, then rule
+abbrev pub IsInOrder : Fault → Fault → Type 0
+IsInOrder a b = (a.item < b.item) ⊎ ((a.item ≡ b.item) × ((a.statement < b.statement) ⊎ ((a.statement ≡ b.statement) × (a.rule < b.rule))))
 
+-- C7 comes behind all others
+abbrev pub IsBefore : Fault → Fault → Type 0
+IsBefore a b = (a.rule < 7) × ((b.rule ≡ 7) ⊎ ((b.rule < 7) × IsInOrder a b))
+
+-- the fault that is named: the first broken rule
 pub record IsFirstFault (p : Program) (f : Fault) : Type 0 where
   pub broken : Contains (faults_of p) f
   pub first : (g : Fault) → Contains (faults_of p) g → (g ≡ f) ⊎ IsBefore f g

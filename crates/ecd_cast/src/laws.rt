@@ -1,6 +1,6 @@
 //! Facts about the definitions alone, each the contract of a function that does nothing.
 
-ghost use Rattle.ecd_cast.specs.Laws.{MeaningIsKept, ValidityIsKept, ValidHasNoFault, Sequence, Choice, Call, CallDeclares, Repetition, OtherBlocks, WritesMakeMemory, Steps};
+ghost use Rattle.ecd_cast.specs.Laws.{MeaningIsKept, ValidityIsKept, FirstFault, Sequence, Choice, Call, CallDeclares, Repetition, OtherBlocks, WritesMakeMemory, Steps};
 
 /// Items behind a function change nothing of what it does, and nothing of an item's validity.
 pub fn items_behind()
@@ -8,9 +8,9 @@ pub fn items_behind()
     ensures validity { ValidityIsKept }
 {}
 
-/// A program that breaks no rule has no first fault.
-pub fn valid_has_no_fault()
-    ensures { ValidHasNoFault }
+/// A program that breaks no rule has no first fault, and every program has at most one.
+pub fn first_fault()
+    ensures { FirstFault }
 {}
 
 /// Ends, writes and steps of a sequence from those of its parts.

@@ -1,0 +1,5 @@
+use Rattle.ecd_cast.proofs.Frame.{first_fault}
+use Rattle.ecd_cast.proofs.laws.first_fault.Goals as goal
+
+pub returns : goal.returns
+returns c = first_fault
