@@ -12,7 +12,7 @@ use Rattle.ecd_cast.specs.declared.tree.CellKind.TheVariants.{Number as NumberCe
 use Rattle.ecd_cast.specs.declared.tree.StructDecl.{StructDecl}
 use Rattle.ecd_cast.specs.Memory.{Name}
 
--- Unknown is the kind of a part that breaks C1; it breaks no C2.
+-- Unknown is the kind of a part that breaks a rule already, as one that breaks C1; it breaks no C2 besides.
 pub data Kind : Type 0 where
   ANumber ATruth AReadPointer AWritePointer Unknown : Kind
   AStruct : Name → Kind

@@ -39,7 +39,7 @@ impl Valid {
         &self.program
     }
 
-    /// The longest chain of calls: never more calls of its functions are active at once.
+    /// The longest chain of calls.
     pub fn call_depth(&self) -> u32
         ensures { result ≡ call_depth_of self.now.items }
     {

@@ -13,23 +13,23 @@ pub fn first_fault()
     ensures { FirstFault }
 {}
 
-/// Ends, writes and steps of a sequence from those of its parts.
+/// Ends, writes and steps of a sequence whose first statement falls through, from those of its parts.
 pub fn sequence()
     ensures { Sequence }
 {}
 
-/// What a choice answers, from what its parts answer.
+/// A choice ends, writes and steps as the block that it takes.
 pub fn choice()
     ensures { Choice }
 {}
 
-/// Ends, writes and steps of a call from those of its body.
+/// Ends, writes and steps of a call whose body returns, from those of its body.
 pub fn call()
     ensures body { Call }
     ensures declares { CallDeclares }
 {}
 
-/// What a loop answers, from what holds at the beginning of each turn.
+/// A loop whose turns fall through and write nothing falls through, in at most the steps of its turns.
 pub fn repetition()
     ensures { Repetition }
 {}

@@ -50,7 +50,7 @@ pub enum Op {
     Or,
 }
 
-/// An expression: a number, a truth or a pointer.
+/// An expression: a number, a truth or a pointer; as an argument, a struct too.
 #[derive(Debug, Drop)]
 pub enum Expr {
     /// `5ull`

@@ -14,7 +14,7 @@ use Rattle.ecd_cast.specs.Meaning.{Returns}
 use Rattle.ecd_cast.specs.Validity.{IsValidAfter, item_calls, call_depth_of}
 use Rattle.ecd_cast.specs.Spelling.{IsSpelledItem}
 use Rattle.ecd_compile.specs.Reader.{reader_items, reader, unit_struct}
-use Rattle.ecd_compile.specs.Reads.{Gives, reading, ReadsByte}
+use Rattle.ecd_compile.specs.Reads.{Gives, reading, ReadsByte, HasInterface}
 
 pub struct_valid : IsValidAfter [] (AStructDecl unit_struct)
 struct_valid = record { sound = refl }
@@ -94,6 +94,12 @@ items_read n = record {
   takes = λ block offset len out m bytes f fit small long hit. gives_taken n block offset len out n m bytes (le-ltb len 1 long) f (rw add-zero hit) (eq-eqb n n refl);
   refuses = λ block offset len out m bytes f fit small miss. refused n block offset len out m bytes f fit miss;
 }
+
+has_interface : (n : ℕ) → HasInterface (reader_items n)
+has_interface n = record { structs = refl; names = refl; params = refl }
+
+pub reader_serves : (n : ℕ) (p : Program) → p.items ≡ reader_items n → HasInterface p.items
+reader_serves n p e = subst HasInterface (sym e) (has_interface n)
 
 pub reader_reads : (n : ℕ) (p : Program) → p.items ≡ reader_items n → p.depth ≡ call_depth_of p.items → ReadsByte n p
 reader_reads n p e d =

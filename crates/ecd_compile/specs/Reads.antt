@@ -1,12 +1,13 @@
 -- What a compiled program does.
-use Rattle.std.specs.Prelude.{ℕ, ◌+◌, ◌^◌, ◌<◌, ◌≤◌, ◌≡◌, ◌≢◌, List, [], ◌∷◌, length, codes, slice_get, Some}
+use Rattle.std.specs.Prelude.{ℕ, ◌+◌, ◌^◌, ◌<◌, ◌≤◌, ◌≡◌, ◌≢◌, List, [], ◌∷◌, length, map, codes, slice_get, Some}
 use Rattle.ecd_cast.specs.declared.tree.CItem.{CItem}
 use Rattle.ecd_cast.specs.declared.tree.Program.{Program}
 use Rattle.ecd_cast.specs.declared.value.Value.TheVariants.{Number as Num, Bytes as Ptr, Struct as Str}
 use Rattle.ecd_cast.specs.declared.value.Cell.TheVariants.{Number as HoldsNumber}
 use Rattle.ecd_cast.specs.Memory.{Memory, Bytes, Event, WritesCell, writes_of, most_active}
 use Rattle.ecd_cast.specs.Meaning.{Run, Returns, calls_of}
-use Rattle.ecd_cast.specs.Validity.{IsValid}
+use Rattle.ecd_cast.specs.Validity.{IsValid, structs_of, functions_of, function_names}
+use Rattle.ecd_compile.specs.Reader.{unit_struct, reader_params}
 use Rattle.ecd_cast.specs.Spelling.{Spells}
 use Rattle.ecd_compile.specs.Thin.{IsThin}
 
@@ -30,10 +31,17 @@ pub record ReadsByte (n : ℕ) (p : Program) : Type 0 where
       (block offset len out : ℕ) (m : Memory) (bytes : List ℕ) → slice_get m block ≡ Some (Bytes bytes) → offset + len ≤ length bytes → len < 2 ^ 62 →
       (1 ≤ len → slice_get bytes offset ≢ Some n) → Gives (reading p.items block offset len out m) 0 [] p.depth
 
+-- The interface of a file: its one struct s0 has the one number cell unit, and its one function is read_0, which takes a buffer, the buffer's length and the struct.
+pub record HasInterface (items : List CItem) : Type 0 where
+  pub structs : structs_of items ≡ unit_struct ∷ []
+  pub names : function_names items ≡ codes "read_0" ∷ []
+  pub params : map (λ f. f.params) (functions_of items) ≡ reader_params ∷ []
+
 -- the schema is thin, with a number that the program reads, and the text spells the program, which is valid
 pub record IsCompiled (schema root text : List ℕ) (p : Program) : Type 0 where
   pub number : ℕ
   pub thin : IsThin schema root number
   pub spells : Spells p text
   pub valid : IsValid p
+  pub interface : HasInterface p.items
   pub reads : ReadsByte number p

@@ -2,7 +2,7 @@
 
 ghost use Rattle.std.specs.Prelude.{◌≡◌, [], ◌∷◌, ◌++◌, ◌<◌, IfOk};
 ghost use Rattle.ecd_compile.specs.Reader as spec;
-ghost use Rattle.ecd_compile.specs.Reads.{ReadsByte};
+ghost use Rattle.ecd_compile.specs.Reads.{ReadsByte, HasInterface};
 
 use ecd_cast::build::{binary, give, load, name, one, set_cell, var, when};
 use ecd_cast::builder::{Builder, Valid};
@@ -86,7 +86,7 @@ fn function(alloc: Global, number: u8) -> Result<Function, OutOfMemory>
 
 /// The program whose `read_0` takes the one byte of this number.
 pub fn reader(alloc: Global, number: u8) -> Result<Valid, OutOfMemory>
-    ensures { IfOk result (λ p. ReadsByte number p) }
+    ensures { IfOk result (λ p. ReadsByte number p × HasInterface p.items) }
 {
     let mut builder = Builder::new(alloc);
     builder.push(CItem::Struct(unit_struct(alloc)?))?;

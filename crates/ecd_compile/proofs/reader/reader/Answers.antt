@@ -6,7 +6,7 @@ use Rattle.ecd_cast.specs.declared.tree.StructDecl.{StructDecl}
 use Rattle.ecd_cast.specs.Validity.{IsValidAfter, item_calls, call_depth_of}
 use Rattle.ecd_cast.specs.Spelling.{IsSpelledItem}
 use Rattle.ecd_compile.specs.Reader.{unit_struct, reader_items}
-use Rattle.ecd_compile.proofs.ByteReader.{reader_reads, reader_valid, reader_spelled, reader_calls}
+use Rattle.ecd_compile.proofs.ByteReader.{reader_reads, reader_serves, reader_valid, reader_spelled, reader_calls}
 use Rattle.ecd_compile.proofs.reader.reader.Goals as goal
 
 first : (empty items : List CItem) (s : StructDecl) → items ≡ empty ++ AStructDecl s ∷ [] → empty ≡ [] → s ≡ unit_struct → items ≡ AStructDecl unit_struct ∷ []
@@ -29,4 +29,5 @@ returns c =
     let items = first c.new-builder.result c.push.new.self c.in_ok-unit_struct.field-0 c.in_ok-push.ensures.ok c.new-builder.ensures c.in_ok-unit_struct.ensures in
     let all : c.push-2.new.self ≡ reader_items c.args.number =
     c.in_ok-push-2.ensures.ok ∙ (ap (λ (l : List CItem). l ++ AFunction c.in_ok-function.field-0 ∷ []) items ∙ ap (λ (f : Function). AStructDecl unit_struct ∷ (AFunction f ∷ [])) c.in_ok-function.ensures) in
-    reader_reads c.args.number c.finish.result (c.finish.ensures.items ∙ all) (c.finish.ensures.depth ∙ ap call_depth_of (sym c.finish.ensures.items))
+    let same = c.finish.ensures.items ∙ all in
+    (reader_reads c.args.number c.finish.result same (c.finish.ensures.depth ∙ ap call_depth_of (sym c.finish.ensures.items)), reader_serves c.args.number c.finish.result same)
