@@ -1,0 +1,5 @@
+pub mod Decimals
+pub mod Tables
+pub mod Schemas
+pub mod Statuses
+pub mod Outcomes

@@ -1,0 +1,5 @@
+#include "number.h"
+
+int main(void) {
+  return differs_somewhere(0);
+}
