@@ -1,0 +1,6 @@
+pub mod Layers
+pub mod Again
+pub mod Loops
+pub mod Takes
+pub mod Lengths
+pub mod Emitting

@@ -1,0 +1,4 @@
+pub mod Encoding
+pub mod Valid
+pub mod Reading
+pub mod Writing
