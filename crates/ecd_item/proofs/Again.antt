@@ -18,7 +18,9 @@ use Rattle.ecd_keyorder.specs.Order.{comparison}
 use Rattle.ecd_item.specs.Encoding.{encoding, joined}
 use Rattle.ecd_item.specs.Valid.{key_of, IsValid, depth, Ascend}
 use Rattle.ecd_item.specs.Reading.{Reader, Taken, ◌>>=◌, taken, headed, layer, behind, parts, item_at, many, pairs, string_at, text_at, made, is_above, inner_of}
-use Rattle.ecd_item.proofs.Layers.{encoding-Array, encoding-Map, encoding-Tag, pair_encoding, pair_text, pair_depth, IsPairValid, greatest, depth-Array, depth-Map, depth-Tag, valid_Array, valid_Map, valid_Tag, Cases, item_ind}
+use Rattle.ecd_item.proofs.Layers.{encoding-Array, encoding-Map, encoding-Tag, pair_encoding, pair_depth, greatest, depth-Array, depth-Map, depth-Tag, valid_Array, valid_Map, valid_Tag, Cases, item_ind}
+use Rattle.ecd_item.specs.Encoding.{pair_bytes}
+use Rattle.ecd_item.specs.Valid.{IsValidPair}
 
 abbrev pub fine : {A : Type 0} → A → Result A Fault
 fine x = Ok x
@@ -75,11 +77,11 @@ module _ (order : Order) where
   follows-Ascend last (key ∷ next ∷ keys) h a = (h, follows-Ascend (Some key) (next ∷ keys) (rw a.0 refl) a.1)
 
   pairs_again : (read : Reader Item) (last : Option (List ℕ)) (ps : List Pair) → AllByRecursion (λ p. Rereads read encoding p.key × Rereads read encoding p.value) ps → follows last (map key_of (map pair_encoding ps)) → (at : ℕ) (rest : List ℕ)
-      → pairs order read last (length ps) at (joined (map pair_text ps) ++ rest) ≡ taken ps (at + length (joined (map pair_text ps))) rest
+      → pairs order read last (length ps) at (joined (map pair_bytes ps) ++ rest) ≡ taken ps (at + length (joined (map pair_bytes ps))) rest
   unfolding pairs
   pairs_again read last [] h f at rest = ap (λ (n : ℕ). taken {A = List Pair} [] n rest) (omega arith)
   pairs_again read last (p ∷ ps) h f at rest =
-      let more = joined (map pair_text ps) in
+      let more = joined (map pair_bytes ps) in
       let whole : ((encoding p.key ++ encoding p.value) ++ more) ++ rest ≡ encoding p.key ++ (encoding p.value ++ (more ++ rest)) = simp append_assoc in
       let front : take (at + length (encoding p.key) - at) (encoding p.key ++ (encoding p.value ++ (more ++ rest))) ≡ encoding p.key = take_at (encoding p.key) (encoding p.value ++ (more ++ rest)) (at + length (encoding p.key) - at) (omega arith) in
       let len : at + length (encoding p.key) + length (encoding p.value) + length more ≡ at + length ((encoding p.key ++ encoding p.value) ++ more) = omega (arith, length-append (encoding p.key ++ encoding p.value) more, length-append (encoding p.key) (encoding p.value)) in
@@ -133,7 +135,7 @@ module _ (order : Order) where
       headed_again (suc d) 4 (length xs) at (joined (map encoding xs)) rest (Array xs) (atom 4 (length xs) (omega arith) v.0) (encoding-Array xs)
           (rw (many_again (item_at order d) encoding xs each) refl)
 
-  pairs_parts_again : (d : ℕ) (ps : List Pair) → AllByRecursion (λ p. P p.key × P p.value) ps → greatest (map pair_depth ps) ≤ d → AllByRecursion (IsPairValid order) ps → AllByRecursion (λ p. Rereads (item_at order d) encoding p.key × Rereads (item_at order d) encoding p.value) ps
+  pairs_parts_again : (d : ℕ) (ps : List Pair) → AllByRecursion (λ p. P p.key × P p.value) ps → greatest (map pair_depth ps) ≤ d → AllByRecursion (IsValidPair order) ps → AllByRecursion (λ p. Rereads (item_at order d) encoding p.key × Rereads (item_at order d) encoding p.value) ps
   pairs_parts_again d [] all deep ok = tt
   pairs_parts_again d (p ∷ ps) all deep ok = (((λ at rest. all.0.0 d at rest (omega arith) ok.0.0), (λ at rest. all.0.1 d at rest (omega arith) ok.0.1)), pairs_parts_again d ps all.1 (omega arith) ok.1)
 
@@ -144,7 +146,7 @@ module _ (order : Order) where
       let v = valid_Map order ps ok in
       let each = pairs_parts_again d ps all (omega (arith, depth-Map ps)) v.1 in
       let f = follows-Ascend None (map key_of (map pair_encoding ps)) (none_above (map key_of (map pair_encoding ps))) v.2 in
-      headed_again (suc d) 5 (length ps) at (joined (map pair_text ps)) rest (Map ps) (atom 5 (length ps) (omega arith) v.0) (encoding-Map ps)
+      headed_again (suc d) 5 (length ps) at (joined (map pair_bytes ps)) rest (Map ps) (atom 5 (length ps) (omega arith) v.0) (encoding-Map ps)
           (rw (pairs_again (item_at order d) None ps each f) refl)
 
   again_tag : (n : ℕ) (x : Item) → P x → P (Tag n x)

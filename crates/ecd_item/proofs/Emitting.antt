@@ -11,7 +11,8 @@ use Rattle.ecd_keyorder.specs.declared.Order.{Order}
 use Rattle.ecd_item.specs.Encoding.{encoding, joined}
 use Rattle.ecd_item.specs.Valid.{IsValid}
 use Rattle.ecd_item.specs.Writing.{Emits}
-use Rattle.ecd_item.proofs.Layers.{IsPairValid, valid_Array, valid_Map}
+use Rattle.ecd_item.proofs.Layers.{valid_Array, valid_Map}
+use Rattle.ecd_item.specs.Valid.{IsValidPair}
 use Rattle.ecd_item.proofs.Lengths.{joined-more}
 
 pub Emits-then : (old : List ℕ) (at : ℕ) (a mid : List ℕ) (k : ℕ) (b new : List ℕ) (end : ℕ) → Emits old at a mid k → Emits mid k b new end → Emits old at (a ++ b) new end
@@ -82,8 +83,8 @@ simple_writable order it n is h =
 pub item_valid : (order : Order) (xs : List Item) (i : ℕ) (x : Item) → i < length xs → x ≡ get_or xs i x → IsValid order (Array xs) → IsValid order x
 item_valid order xs i x lt is h = subst (IsValid order) (sym is) (at_place (IsValid order) xs i x lt (valid_Array order xs h).1)
 
-pub pair_valid : (order : Order) (xs : List Pair) (i : ℕ) (x : Pair) → i < length xs → x ≡ get_or xs i x → IsValid order (Map xs) → IsPairValid order x
-pair_valid order xs i x lt is h = subst (IsPairValid order) (sym is) (at_place (IsPairValid order) xs i x lt (valid_Map order xs h).1)
+pub pair_valid : (order : Order) (xs : List Pair) (i : ℕ) (x : Pair) → i < length xs → x ≡ get_or xs i x → IsValid order (Map xs) → IsValidPair order x
+pair_valid order xs i x lt is h = subst (IsValidPair order) (sym is) (at_place (IsValidPair order) xs i x lt (valid_Map order xs h).1)
 
 pub key_room : (k v mid : List ℕ) (here : ℕ) → here + length (k ++ v) ≤ length mid → here + length k ≤ length mid
 key_room k v mid here h = omega (arith, length-append k v)

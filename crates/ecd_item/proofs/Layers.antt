@@ -14,8 +14,8 @@ use Rattle.ecd_item.specs.declared.item.Item.TheOpen.{Item-F}
 use Rattle.ecd_item.specs.declared.item.Item.TheBlock.{shown-the_row-Item-0, shown-the_row-Item-2, shown-the_row-Pair-1, hidden-the_row-Item-0, hidden-the_row-Pair-1, hidden-the_row-Item-2, items_hidden-the_row-Item-0, items_hidden-the_row-Item-2, items_hidden-the_row-Pair-1}
 use Rattle.ecd_item.specs.declared.item.Item.TheVariants.{Uint, Nint, Bytes, Text, Array, Map, Tag, Simple, rolls-Array, rolls-Map, rolls-Tag, outs-Array, outs-Map, outs-Tag}
 use Rattle.ecd_item.specs.declared.item.Pair.{Pair}
-use Rattle.ecd_item.specs.Encoding.{encoding, encodings, pair_encodings, joined, both}
-use Rattle.ecd_item.specs.Valid.{key_of, IsValid, AreValid, ArePairsValid, depth, depths, pair_depths, Ascend}
+use Rattle.ecd_item.specs.Encoding.{encoding, encodings, pair_encodings, pair_bytes, joined, both}
+use Rattle.ecd_item.specs.Valid.{key_of, IsValid, IsValidPair, AreValid, ArePairsValid, depth, depths, pair_depths, Ascend}
 
 pub encodings-row : (n : Count) (row : Row_of-Item n) → encodings row ≡ map encoding (items-the_row-Item n row)
 unfolding encodings
@@ -81,14 +81,11 @@ pub encoding-Array : (xs : List Item) → encoding (Array xs) ≡ head_bytes 4 (
 unfolding encoding
 encoding-Array xs = ap (λ (es : List (List ℕ)). head_bytes 4 (length es) ++ joined es) (encodings-list xs) ∙ ap (λ (n : ℕ). head_bytes 4 n ++ joined (map encoding xs)) (length-map xs encoding)
 
-abbrev pub pair_text : Pair → List ℕ
-pair_text p = encoding p.key ++ encoding p.value
-
-pair_texts : (ps : List Pair) → map both (map pair_encoding ps) ≡ map pair_text ps
+pub pair_texts : (ps : List Pair) → map both (map pair_encoding ps) ≡ map pair_bytes ps
 pair_texts [] = refl
-pair_texts (p ∷ ps) = ap (λ (t : List (List ℕ)). pair_text p ∷ t) (pair_texts ps)
+pair_texts (p ∷ ps) = ap (λ (t : List (List ℕ)). pair_bytes p ∷ t) (pair_texts ps)
 
-pub encoding-Map : (ps : List Pair) → encoding (Map ps) ≡ head_bytes 5 (length ps) ++ joined (map pair_text ps)
+pub encoding-Map : (ps : List Pair) → encoding (Map ps) ≡ head_bytes 5 (length ps) ++ joined (map pair_bytes ps)
 unfolding encoding
 encoding-Map ps =
     ap (λ (es : List (List ℕ × List ℕ)). head_bytes 5 (length es) ++ joined (map both es)) (pairs-list ps)
@@ -158,15 +155,12 @@ module _ (order : Order) where
   AreValid-row n end_of-Item = refl
   AreValid-row n (more_of-Item i rest) = ap (λ (X : Type 0). IsValid order i × X) (AreValid-row _ rest)
 
-  abbrev pub IsPairValid : Pair → Type 0
-  IsPairValid p = IsValid order p.key × IsValid order p.value
-
-  pub ArePairsValid-row : (n : Count) (row : Row_of-Pair n) → ArePairsValid order row → AllByRecursion IsPairValid (items-the_row-Pair n row)
+  pub ArePairsValid-row : (n : Count) (row : Row_of-Pair n) → ArePairsValid order row → AllByRecursion (IsValidPair order) (items-the_row-Pair n row)
   unfolding ArePairsValid
   ArePairsValid-row n end_of-Pair h = tt
   ArePairsValid-row n (more_of-Pair k v rest) h = ((h.0, h.1), ArePairsValid-row _ rest h.2)
 
-  ArePairsValid-from : (n : Count) (row : Row_of-Pair n) → AllByRecursion IsPairValid (items-the_row-Pair n row) → ArePairsValid order row
+  ArePairsValid-from : (n : Count) (row : Row_of-Pair n) → AllByRecursion (IsValidPair order) (items-the_row-Pair n row) → ArePairsValid order row
   unfolding ArePairsValid
   ArePairsValid-from n end_of-Pair h = tt
   ArePairsValid-from n (more_of-Pair k v rest) h = (h.0.0, h.0.1, ArePairsValid-from _ rest h.1)
@@ -199,11 +193,11 @@ module _ (order : Order) where
       let all : AllByRecursion (IsValid order) (items-the_row-Item _ (hidden-the_row-Item-0 xs)) = coe_type (AreValid-row _ (hidden-the_row-Item-0 xs)) h.1 in
       (omega (arith, ap length (encodings-list xs), length-map xs encoding, h.0), subst (AllByRecursion (IsValid order)) (items_hidden-the_row-Item-0 xs) all)
 
-  pub valid_Map : (ps : List Pair) → IsValid order (Map ps) → (length ps < 2 ^ 64) × AllByRecursion IsPairValid ps × Ascend order (map key_of (map pair_encoding ps))
+  pub valid_Map : (ps : List Pair) → IsValid order (Map ps) → (length ps < 2 ^ 64) × AllByRecursion (IsValidPair order) ps × Ascend order (map key_of (map pair_encoding ps))
   unfolding IsValid
   valid_Map ps h =
       let es = pairs-list ps in
-      (omega (arith, ap length es, length-map ps pair_encoding, h.0), subst (AllByRecursion IsPairValid) (items_hidden-the_row-Pair-1 ps) (ArePairsValid-row _ (hidden-the_row-Pair-1 ps) h.1), subst (λ (es : List (List ℕ × List ℕ)). Ascend order (map key_of es)) es h.2)
+      (omega (arith, ap length es, length-map ps pair_encoding, h.0), subst (AllByRecursion (IsValidPair order)) (items_hidden-the_row-Pair-1 ps) (ArePairsValid-row _ (hidden-the_row-Pair-1 ps) h.1), subst (λ (es : List (List ℕ × List ℕ)). Ascend order (map key_of es)) es h.2)
 
   pub valid_Tag : (n : ℕ) (x : Item) → IsValid order (Tag n x) → (n < 2 ^ 64) × IsValid order x
   unfolding IsValid AreValid hidden-the_row-Item-2 hidden
@@ -218,12 +212,12 @@ module _ (order : Order) where
       let all : AllByRecursion (IsValid order) (items-the_row-Item _ row) = subst (AllByRecursion (IsValid order)) (sym (items_hidden-the_row-Item-0 xs)) h in
       (omega (arith, ap length (encodings-list xs), length-map xs encoding), coe_type (sym (AreValid-row _ row)) all)
 
-  pub Map_valid : (ps : List Pair) → length ps < 2 ^ 64 → AllByRecursion IsPairValid ps → Ascend order (map key_of (map pair_encoding ps)) → IsValid order (Map ps)
+  pub Map_valid : (ps : List Pair) → length ps < 2 ^ 64 → AllByRecursion (IsValidPair order) ps → Ascend order (map key_of (map pair_encoding ps)) → IsValid order (Map ps)
   unfolding IsValid
   Map_valid ps lt h a =
       let row = hidden-the_row-Pair-1 ps in
       let es = pairs-list ps in
-      (omega (arith, ap length es, length-map ps pair_encoding), ArePairsValid-from _ row (subst (AllByRecursion IsPairValid) (sym (items_hidden-the_row-Pair-1 ps)) h), subst (λ (es : List (List ℕ × List ℕ)). Ascend order (map key_of es)) (sym es) a)
+      (omega (arith, ap length es, length-map ps pair_encoding), ArePairsValid-from _ row (subst (AllByRecursion (IsValidPair order)) (sym (items_hidden-the_row-Pair-1 ps)) h), subst (λ (es : List (List ℕ × List ℕ)). Ascend order (map key_of es)) (sym es) a)
 
   pub Tag_valid : (n : ℕ) (x : Item) → n < 2 ^ 64 → IsValid order x → IsValid order (Tag n x)
   unfolding IsValid AreValid hidden-the_row-Item-2 hidden

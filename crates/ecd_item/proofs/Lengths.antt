@@ -1,13 +1,15 @@
 -- Lengths, and writing one value after the other.
 use Rattle.std.proofs.Common.{◌≡◌, ℕ, zero, suc, ◌+◌, ◌-◌, ◌<◌, ◌≤◌, ◌^◌, List, [], ◌∷◌, ◌++◌, length, take, drop, map, get_or, refl, ap, sym, ◌∙◌, subst, arith, rules, append_assoc}
 use Rattle.std.specs.Prelude.{min}
+use Rattle.std.proofs.lemmas.Bool.Decides.{nat_tests}
 use Rattle.std.proofs.lemmas.List.{length-append, length-map, append-nil, take_more, map_push}
 use Rattle.ecd_head.specs.Head.{head_bytes}
 use Rattle.ecd_item.specs.declared.item.Item.{Item}
 use Rattle.ecd_item.specs.declared.item.Item.TheVariants.{Uint, Nint, Bytes, Text, Array, Map, Tag, Simple}
 use Rattle.ecd_item.specs.declared.item.Pair.{Pair}
 use Rattle.ecd_item.specs.Encoding.{encoding, joined}
-use Rattle.ecd_item.proofs.Layers.{encoding-Bytes, encoding-Text, encoding-Array, encoding-Map, encoding-Tag, pair_text}
+use Rattle.ecd_item.proofs.Layers.{encoding-Bytes, encoding-Text, encoding-Array, encoding-Map, encoding-Tag}
+use Rattle.ecd_item.specs.Encoding.{pair_bytes}
 
 pub joined-last : (xs : List (List ℕ)) (x : List ℕ) → joined (xs ++ x ∷ []) ≡ joined xs ++ x
 joined-last [] x = append-nil x
@@ -33,15 +35,19 @@ pub array_length : (it : Item) (xs : List Item) (h rest r limit : ℕ) → it �
 array_length it xs h rest r limit is eh er e =
     rw (is, encoding-Array xs) (omega (arith, length-append (head_bytes 4 (length xs)) (joined (map encoding xs)), eh, er, e))
 
-pub map_length : (it : Item) (ps : List Pair) (h rest r limit : ℕ) → it ≡ Map ps → h ≡ length (head_bytes 5 (length ps)) → rest ≡ min (length (joined (map pair_text ps))) limit → r ≡ min (h + rest) limit → r ≡ min (length (encoding it)) limit
+pub map_length : (it : Item) (ps : List Pair) (h rest r limit : ℕ) → it ≡ Map ps → h ≡ length (head_bytes 5 (length ps)) → rest ≡ min (length (joined (map pair_bytes ps))) limit → r ≡ min (h + rest) limit → r ≡ min (length (encoding it)) limit
 map_length it ps h rest r limit is eh er e =
-    rw (is, encoding-Map ps) (omega (arith, length-append (head_bytes 5 (length ps)) (joined (map pair_text ps)), eh, er, e))
+    rw (is, encoding-Map ps) (omega (arith, length-append (head_bytes 5 (length ps)) (joined (map pair_bytes ps)), eh, er, e))
 
 pub tag_length : (it : Item) (n : ℕ) (x : Item) (h rest r limit : ℕ) → it ≡ Tag n x → h ≡ length (head_bytes 6 n) → rest ≡ min (length (encoding x)) limit → r ≡ min (h + rest) limit → r ≡ min (length (encoding it)) limit
 tag_length it n x h rest r limit is eh er e =
     rw (is, encoding-Tag n x) (omega (arith, length-append (head_bytes 6 n) (encoding x), eh, er, e))
 
-pub pair_total_more : (xs : List Pair) (i : ℕ) (x : Pair) (total mid next limit : ℕ) → i < length xs → x ≡ get_or xs i x → total ≡ min (length (joined (map pair_text (take i xs)))) limit
-    → mid ≡ min (total + min (length (encoding x.key)) limit) limit → next ≡ min (mid + min (length (encoding x.value)) limit) limit → next ≡ min (length (joined (map pair_text (take (i + 1) xs)))) limit
+pub pair_total_more : (xs : List Pair) (i : ℕ) (x : Pair) (total mid next limit : ℕ) → i < length xs → x ≡ get_or xs i x → total ≡ min (length (joined (map pair_bytes (take i xs)))) limit
+    → mid ≡ min (total + min (length (encoding x.key)) limit) limit → next ≡ min (mid + min (length (encoding x.value)) limit) limit → next ≡ min (length (joined (map pair_bytes (take (i + 1) xs)))) limit
 pair_total_more xs i x total mid next limit lt is so_far e f =
-    rw (joined-more pair_text xs i x lt, ← is) (omega (arith, length-append (joined (map pair_text (take i xs))) (pair_text x), length-append (encoding x.key) (encoding x.value), so_far, e, f))
+    rw (joined-more pair_bytes xs i x lt, ← is) (omega (arith, length-append (joined (map pair_bytes (take i xs))) (pair_bytes x), length-append (encoding x.key) (encoding x.value), so_far, e, f))
+
+pub head_most : (major arg : ℕ) → length (head_bytes major arg) ≤ 9
+unfolding head_bytes
+head_most major arg = grind (arith, nat_tests)

@@ -4,3 +4,5 @@ pub mod Loops
 pub mod Takes
 pub mod Lengths
 pub mod Emitting
+pub mod Bodies
+pub mod Comparing

@@ -27,7 +27,9 @@ use Rattle.ecd_keyorder.specs.Order.{comparison}
 use Rattle.ecd_item.specs.Encoding.{encoding, joined}
 use Rattle.ecd_item.specs.Valid.{key_of, IsValid, depth, Ascend}
 use Rattle.ecd_item.specs.Reading.{Reader, Taken, ◌>>=◌, taken, refused, headed, layer, behind, parts, item_at, inner_of, many, pairs, pair_of, string_at, text_at, made, is_above, is_less, cause_of, Gives, seen}
-use Rattle.ecd_item.proofs.Layers.{encoding-Array, encoding-Map, encoding-Tag, pair_encoding, pair_text, pair_depth, IsPairValid, greatest, depth-Array, depth-Map, depth-Tag, Array_valid, Map_valid, Tag_valid}
+use Rattle.ecd_item.proofs.Layers.{encoding-Array, encoding-Map, encoding-Tag, pair_encoding, pair_depth, greatest, depth-Array, depth-Map, depth-Tag, Array_valid, Map_valid, Tag_valid}
+use Rattle.ecd_item.specs.Encoding.{pair_bytes}
+use Rattle.ecd_item.specs.Valid.{IsValidPair}
 use Rattle.ecd_item.proofs.Again.{ok_is, fine, follows, item_again}
 
 module _ (order : Order) where
@@ -116,7 +118,7 @@ module _ (order : Order) where
   Ascend-follows last (key ∷ next ∷ keys) f = (less_is (comparison order key next) f.1.0, Ascend-follows (Some key) (next ∷ keys) f.1)
 
   abbrev pairs_text : List Pair → List ℕ
-  pairs_text ps = joined (map pair_text ps)
+  pairs_text ps = joined (map pair_bytes ps)
 
   record ArePairs (Q : Item → Type 0) (last : Option (List ℕ)) (n : ℕ) (ps : List Pair) : Type 0 where
     count : length ps ≡ n
@@ -129,10 +131,10 @@ module _ (order : Order) where
   pair_took : (Q : Item → Type 0) (last : Option (List ℕ)) (n at : ℕ) (bytes kb : List ℕ) (k v : Taken Item) (o x : Taken (List Pair)) → Took encoding Q at bytes k → Took encoding Q k.at k.rest v → kb ≡ encoding k.value → is_above order last kb ≡ true
       → Took pairs_text (ArePairs Q (Some kb) n) v.at v.rest o → taken (pair_of k.value v.value ∷ o.value) o.at o.rest ≡ Ok x → Took pairs_text (ArePairs Q last (suc n)) at bytes x
   pair_took Q last n at bytes kb k v o x p q ke above r e =
-      let pv : Took pair_text (λ p. Q p.key × Q p.value) at bytes (record { value = pair_of k.value v.value; at = v.at; rest = v.rest }) = then encoding Q encoding Q pair_text (λ p. Q p.key × Q p.value) at bytes k v (pair_of k.value v.value) p q refl (p.holds, q.holds) in
+      let pv : Took pair_bytes (λ p. Q p.key × Q p.value) at bytes (record { value = pair_of k.value v.value; at = v.at; rest = v.rest }) = then encoding Q encoding Q pair_bytes (λ p. Q p.key × Q p.value) at bytes k v (pair_of k.value v.value) p q refl (p.holds, q.holds) in
       let ascends : follows order last (map key_of (map pair_encoding (pair_of k.value v.value ∷ o.value))) = rw (← ke) (above, r.holds.ascends) in
       subst (Took pairs_text (ArePairs Q last (suc n)) at bytes) (ok_is (record { value = pair_of k.value v.value ∷ o.value; at = o.at; rest = o.rest }) x e)
-          (then pair_text (λ p. Q p.key × Q p.value) pairs_text (ArePairs Q (Some kb) n) pairs_text (ArePairs Q last (suc n)) at bytes (record { value = pair_of k.value v.value; at = v.at; rest = v.rest }) o (pair_of k.value v.value ∷ o.value) pv r refl
+          (then pair_bytes (λ p. Q p.key × Q p.value) pairs_text (ArePairs Q (Some kb) n) pairs_text (ArePairs Q last (suc n)) at bytes (record { value = pair_of k.value v.value; at = v.at; rest = v.rest }) o (pair_of k.value v.value ∷ o.value) pv r refl
               (record { count = ap suc r.holds.count; each = ((p.holds, q.holds), r.holds.each); ascends = ascends }))
 
   pairs_takes : (Q : Item → Type 0) (read : Reader Item) → Takes encoding Q read → (n : ℕ) (last : Option (List ℕ)) → Takes pairs_text (ArePairs Q last n) (pairs order read last n)
@@ -191,7 +193,7 @@ module _ (order : Order) where
   each_valid d [] h = (tt, omega arith)
   each_valid d (x ∷ xs) h = let r = each_valid d xs h.1 in ((h.0.0, r.0), omega (arith, h.0.1, r.1))
 
-  each_pair_valid : (d : ℕ) (ps : List Pair) → AllByRecursion (λ p. Good d p.key × Good d p.value) ps → AllByRecursion (IsPairValid order) ps × (greatest (map pair_depth ps) ≤ d)
+  each_pair_valid : (d : ℕ) (ps : List Pair) → AllByRecursion (λ p. Good d p.key × Good d p.value) ps → AllByRecursion (IsValidPair order) ps × (greatest (map pair_depth ps) ≤ d)
   each_pair_valid d [] h = (tt, omega arith)
   each_pair_valid d (p ∷ ps) h = let r = each_pair_valid d ps h.1 in (((h.0.0.0, h.0.1.0), r.0), omega (arith, h.0.0.1, h.0.1.1, r.1))
 

@@ -3,6 +3,7 @@ use Rattle.std.specs.Prelude.{ℕ, List, [], ◌∷◌, ◌++◌, length, map}
 use Rattle.ecd_head.specs.Head.{head_bytes}
 use Rattle.ecd_item.specs.declared.item.Item.{Item, Row_of-Item, end_of-Item, more_of-Item, Array', Map', Tag', Row_of-Pair, end_of-Pair, more_of-Pair}
 use Rattle.ecd_item.specs.declared.item.Item.TheVariants.{Uint, Nint, Bytes, Text, Simple}
+use Rattle.ecd_item.specs.declared.item.Pair.{Pair}
 
 -- The pieces, one after another.
 abbrev pub joined : List (List ℕ) → List ℕ
@@ -34,6 +35,10 @@ unfoldable mutual
   pub pair_encodings : {m : _} → Row_of-Pair m → List (List ℕ × List ℕ)
   pair_encodings end_of-Pair = []
   pair_encodings (more_of-Pair key value rest) = (encoding key, encoding value) ∷ pair_encodings rest
+
+-- A pair's bytes in its map.
+abbrev pub pair_bytes : Pair → List ℕ
+pair_bytes pair = encoding pair.key ++ encoding pair.value
 
 -- How many bytes the encoding has. An item with an argument past 64 bits has a length too, and no encoding that a reader meets.
 abbrev pub encoded_length : Item → ℕ

@@ -5,6 +5,7 @@ use Rattle.ecd_keyorder.specs.declared.Order.{Order}
 use Rattle.ecd_keyorder.specs.Order.{IsBefore}
 use Rattle.ecd_item.specs.declared.item.Item.{Item, Row_of-Item, end_of-Item, more_of-Item, Array', Map', Tag', Row_of-Pair, end_of-Pair, more_of-Pair}
 use Rattle.ecd_item.specs.declared.item.Item.TheVariants.{Uint, Nint, Bytes, Text, Simple}
+use Rattle.ecd_item.specs.declared.item.Pair.{Pair}
 use Rattle.ecd_item.specs.Encoding.{encodings, pair_encodings}
 
 -- The encoding of a pair's key.
@@ -41,6 +42,9 @@ unfoldable mutual
   ArePairsValid order end_of-Pair = Unit {0}
   ArePairsValid order (more_of-Pair key value rest) = IsValid order key × IsValid order value × ArePairsValid order rest
 
+abbrev pub IsValidPair : Order → Pair → Type 0
+IsValidPair order pair = IsValid order pair.key × IsValid order pair.value
+
 -- How deep an item nests: an array, map or tag is one deeper than its deepest part, and every other item is 0 deep.
 unfoldable mutual
   pub depth : Item → ℕ
@@ -60,3 +64,10 @@ unfoldable mutual
   pub pair_depths : {m : _} → Row_of-Pair m → ℕ
   pair_depths end_of-Pair = 0
   pair_depths (more_of-Pair key value rest) = max (max (depth key) (depth value)) (pair_depths rest)
+
+-- Valid, and no deeper than is allowed.
+abbrev pub IsWhole : Order → ℕ → Item → Type 0
+IsWhole order deepest item = IsValid order item × (depth item ≤ deepest)
+
+abbrev pub IsWholePair : Order → ℕ → Pair → Type 0
+IsWholePair order deepest pair = IsWhole order deepest pair.key × IsWhole order deepest pair.value

@@ -1,8 +1,10 @@
 //! Data items and their deterministic encoding: RFC 8949, sections 2, 3 and 4.2.1.
 #![tactic(auto)]
 
+mod compare;
 mod fault;
 mod item;
+mod parts;
 mod read;
 mod write;
 

@@ -4,7 +4,7 @@ ghost use Rattle.std.specs.Prelude.{◌≡◌, ℕ, ◌+◌, ◌-◌, ◌<◌, �
 ghost use Rattle.ecd_head.specs.Head.{head_bytes, IsWritable};
 ghost use Rattle.ecd_head.specs.Place.{WritesAt};
 ghost use Rattle.ecd_keyorder.specs.declared.Order.TheVariants.{Bytewise};
-ghost use Rattle.ecd_item.specs.Encoding.{encoding, encoded_length, joined};
+ghost use Rattle.ecd_item.specs.Encoding.{encoding, encoded_length, pair_bytes, joined};
 ghost use Rattle.ecd_item.specs.Valid.{IsValid};
 ghost use Rattle.ecd_item.specs.Writing.{Emits};
 
@@ -77,7 +77,7 @@ fn items_length(items: &[Item]) -> u64
 
 #[cycle(measuring)]
 fn pairs_length(pairs: &[Pair]) -> u64
-    ensures { result ≡ min (length (joined (map (λ p. encoding p.key ++ encoding p.value) pairs.now))) (2 ^ 63) }
+    ensures { result ≡ min (length (joined (map pair_bytes pairs.now))) (2 ^ 63) }
 {
     let mut total = 0;
     for pair in pairs {
@@ -87,7 +87,7 @@ fn pairs_length(pairs: &[Pair]) -> u64
     total
 }
 
-fn emit_head(major: u8, arg: u64, into: &mut [u8], at: usize) -> usize
+pub(crate) fn emit_head(major: u8, arg: u64, into: &mut [u8], at: usize) -> usize
     requires writable { IsWritable major arg }
     requires room { at + length (head_bytes major arg) ≤ length into.old }
     ensures { Emits into.old at (head_bytes major arg) into.new result }

@@ -4,7 +4,7 @@ use Rattle.ecd_head.specs.Head.{head_bytes}
 use Rattle.ecd_item.specs.declared.item.Item.{Item}
 use Rattle.ecd_item.specs.declared.item.Pair.{Pair}
 use Rattle.ecd_item.specs.Encoding.{encoding, joined}
-use Rattle.ecd_item.proofs.Layers.{pair_text}
+use Rattle.ecd_item.specs.Encoding.{pair_bytes}
 use Rattle.ecd_item.proofs.Lengths.{total_more, bytes_length, text_length, array_length, map_length, tag_length, pair_total_more}
 use Rattle.ecd_item.proofs.write.+measuring.Goals as goal
 
@@ -25,7 +25,7 @@ length_of-returns-in-Map t c =
     let items = c.as_slice-in-Map.ensures in
     map_length c.args.item.now c.in-Map.pairs c.head_length-in-Map.result c.pairs_length.result c.add-in-Map.result (2 ^ 63) c.in-Map.is
         (c.head_length-in-Map.ensures.sized 5 ∙ ap (λ (n : ℕ). length (head_bytes 5 n)) c.len-in-Map.ensures)
-        (c.pairs_length.ensures ∙ ap (λ (xs : List Pair). min (length (joined (map pair_text xs))) (2 ^ 63)) items) c.add-in-Map.ensures
+        (c.pairs_length.ensures ∙ ap (λ (xs : List Pair). min (length (joined (map pair_bytes xs))) (2 ^ 63)) items) c.add-in-Map.ensures
 
 pub length_of-returns-in-Tag : goal.length_of-returns-in-Tag
 length_of-returns-in-Tag t c =

@@ -3,7 +3,8 @@ use Rattle.ecd_head.specs.Head.{head_bytes}
 use Rattle.ecd_keyorder.specs.declared.Order.TheVariants.{Bytewise}
 use Rattle.ecd_item.specs.Encoding.{encoding, joined}
 use Rattle.ecd_item.specs.declared.item.Item.{the_lemmas}
-use Rattle.ecd_item.proofs.Layers.{encoding-Array, encoding-Map, encoding-Tag, pair_text, valid_Tag}
+use Rattle.ecd_item.proofs.Layers.{encoding-Array, encoding-Map, encoding-Tag, valid_Tag}
+use Rattle.ecd_item.specs.Encoding.{pair_bytes}
 use Rattle.ecd_item.proofs.Emitting.{Emits-then, head_room, piece_room, piece_next, piece_done, simple_writable, item_valid, pair_valid, key_room, value_room}
 use Rattle.ecd_item.proofs.write.+writing.Goals as goal
 
@@ -29,23 +30,23 @@ emit_map-emit_head-here-requires-clause-room t c = head_room c.args.into.now c.a
 pub emit_map-emit-here-requires : goal.emit_map-emit-here-requires
 emit_map-emit-here-requires t c =
     let v = pair_valid Bytewise c.args.pairs.now c.loop-pair.pair-index c.pair-item.result c.loop-pair-test.true c.pair-item.is c.requires.valid in
-    let r = piece_room pair_text c.args.pairs.now c.loop-pair.pair-index c.pair-item.result _ _ c.args.into.now c.loop-pair.into c.args.at c.loop-pair.here c.loop-pair-test.true c.pair-item.is (encoding-Map c.args.pairs.now) c.requires.room c.loop-pair.invariant in
+    let r = piece_room pair_bytes c.args.pairs.now c.loop-pair.pair-index c.pair-item.result _ _ c.args.into.now c.loop-pair.into c.args.at c.loop-pair.here c.loop-pair-test.true c.pair-item.is (encoding-Map c.args.pairs.now) c.requires.room c.loop-pair.invariant in
     (search (rules, the_lemmas), (v.0, key_room (encoding c.pair-item.result.key) (encoding c.pair-item.result.value) c.loop-pair.into c.loop-pair.here r))
 
 pub emit_map-emit-here-requires-in-loop-pair : goal.emit_map-emit-here-requires-in-loop-pair
 emit_map-emit-here-requires-in-loop-pair t c =
     let v = pair_valid Bytewise c.args.pairs.now c.loop-pair.pair-index c.pair-item.result c.loop-pair-test.true c.pair-item.is c.requires.valid in
-    let r = piece_room pair_text c.args.pairs.now c.loop-pair.pair-index c.pair-item.result _ _ c.args.into.now c.loop-pair.into c.args.at c.loop-pair.here c.loop-pair-test.true c.pair-item.is (encoding-Map c.args.pairs.now) c.requires.room c.loop-pair.invariant in
+    let r = piece_room pair_bytes c.args.pairs.now c.loop-pair.pair-index c.pair-item.result _ _ c.args.into.now c.loop-pair.into c.args.at c.loop-pair.here c.loop-pair-test.true c.pair-item.is (encoding-Map c.args.pairs.now) c.requires.room c.loop-pair.invariant in
     (search (rules, the_lemmas), (v.1, value_room (encoding c.pair-item.result.key) (encoding c.pair-item.result.value) c.loop-pair.into c.emit-here.new.into c.loop-pair.here c.emit-here.result r c.emit-here.ensures))
 
 pub emit_map-loop-pair-preserved : goal.emit_map-loop-pair-preserved
 emit_map-loop-pair-preserved t c =
-    piece_next pair_text c.args.pairs.now c.loop-pair.pair-index c.pair-item.result (head_bytes 5 (length c.args.pairs.now)) c.args.into.now c.loop-pair.into c.emit-here-in-loop-pair.new.into c.args.at c.loop-pair.here c.emit-here-in-loop-pair.result c.loop-pair-test.true c.pair-item.is c.loop-pair.invariant
+    piece_next pair_bytes c.args.pairs.now c.loop-pair.pair-index c.pair-item.result (head_bytes 5 (length c.args.pairs.now)) c.args.into.now c.loop-pair.into c.emit-here-in-loop-pair.new.into c.args.at c.loop-pair.here c.emit-here-in-loop-pair.result c.loop-pair-test.true c.pair-item.is c.loop-pair.invariant
         (Emits-then c.loop-pair.into c.loop-pair.here _ c.emit-here.new.into c.emit-here.result _ c.emit-here-in-loop-pair.new.into c.emit-here-in-loop-pair.result c.emit-here.ensures c.emit-here-in-loop-pair.ensures)
 
 pub emit_map-returns : goal.emit_map-returns
 emit_map-returns t c =
-    piece_done pair_text c.args.pairs.now c.loop-pair.pair-index (head_bytes 5 (length c.args.pairs.now)) _ c.args.into.now c.loop-pair.into c.args.at c.loop-pair.here c.loop-pair-test.false (encoding-Map c.args.pairs.now) c.loop-pair.invariant
+    piece_done pair_bytes c.args.pairs.now c.loop-pair.pair-index (head_bytes 5 (length c.args.pairs.now)) _ c.args.into.now c.loop-pair.into c.args.at c.loop-pair.here c.loop-pair-test.false (encoding-Map c.args.pairs.now) c.loop-pair.invariant
 
 pub emit_tag-emit-requires : goal.emit_tag-emit-requires
 emit_tag-emit-requires t c =
