@@ -15,10 +15,10 @@ use Rattle.ecd_item.specs.declared.item.Item.TheVariants.{Uint, Nint, Bytes, Tex
 use Rattle.ecd_item.specs.declared.item.Pair.{Pair}
 use Rattle.ecd_keyorder.specs.declared.Order.{Order}
 use Rattle.ecd_keyorder.specs.Order.{comparison}
-use Rattle.ecd_item.specs.Encoding.{encoding, joined}
-use Rattle.ecd_item.specs.Valid.{key_of, IsValid, depth, Ascend}
+use Rattle.ecd_item.specs.Encoding.{encoding, key_bytes, joined}
+use Rattle.ecd_item.specs.Valid.{IsValid, depth, Ascend}
 use Rattle.ecd_item.specs.Reading.{Reader, Taken, ◌>>=◌, taken, headed, layer, behind, parts, item_at, many, pairs, string_at, text_at, made, is_above, inner_of}
-use Rattle.ecd_item.proofs.Layers.{encoding-Array, encoding-Map, encoding-Tag, pair_encoding, pair_depth, greatest, depth-Array, depth-Map, depth-Tag, valid_Array, valid_Map, valid_Tag, Cases, item_ind}
+use Rattle.ecd_item.proofs.Layers.{encoding-Array, encoding-Map, encoding-Tag, pair_depth, greatest, depth-Array, depth-Map, depth-Tag, valid_Array, valid_Map, valid_Tag, Cases, item_ind}
 use Rattle.ecd_item.specs.Encoding.{pair_bytes}
 use Rattle.ecd_item.specs.Valid.{IsValidPair}
 
@@ -76,7 +76,7 @@ module _ (order : Order) where
   follows-Ascend last (key ∷ []) h a = (h, tt)
   follows-Ascend last (key ∷ next ∷ keys) h a = (h, follows-Ascend (Some key) (next ∷ keys) (rw a.0 refl) a.1)
 
-  pairs_again : (read : Reader Item) (last : Option (List ℕ)) (ps : List Pair) → AllByRecursion (λ p. Rereads read encoding p.key × Rereads read encoding p.value) ps → follows last (map key_of (map pair_encoding ps)) → (at : ℕ) (rest : List ℕ)
+  pairs_again : (read : Reader Item) (last : Option (List ℕ)) (ps : List Pair) → AllByRecursion (λ p. Rereads read encoding p.key × Rereads read encoding p.value) ps → follows last (map key_bytes ps) → (at : ℕ) (rest : List ℕ)
       → pairs order read last (length ps) at (joined (map pair_bytes ps) ++ rest) ≡ taken ps (at + length (joined (map pair_bytes ps))) rest
   unfolding pairs
   pairs_again read last [] h f at rest = ap (λ (n : ℕ). taken {A = List Pair} [] n rest) (omega arith)
@@ -145,7 +145,7 @@ module _ (order : Order) where
   again_map ps all (suc d) at rest deep ok =
       let v = valid_Map order ps ok in
       let each = pairs_parts_again d ps all (omega (arith, depth-Map ps)) v.1 in
-      let f = follows-Ascend None (map key_of (map pair_encoding ps)) (none_above (map key_of (map pair_encoding ps))) v.2 in
+      let f = follows-Ascend None (map key_bytes ps) (none_above (map key_bytes ps)) v.2 in
       headed_again (suc d) 5 (length ps) at (joined (map pair_bytes ps)) rest (Map ps) (atom 5 (length ps) (omega arith) v.0) (encoding-Map ps)
           (rw (pairs_again (item_at order d) None ps each f) refl)
 

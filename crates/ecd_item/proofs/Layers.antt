@@ -14,7 +14,7 @@ use Rattle.ecd_item.specs.declared.item.Item.TheOpen.{Item-F}
 use Rattle.ecd_item.specs.declared.item.Item.TheBlock.{shown-the_row-Item-0, shown-the_row-Item-2, shown-the_row-Pair-1, hidden-the_row-Item-0, hidden-the_row-Pair-1, hidden-the_row-Item-2, items_hidden-the_row-Item-0, items_hidden-the_row-Item-2, items_hidden-the_row-Pair-1}
 use Rattle.ecd_item.specs.declared.item.Item.TheVariants.{Uint, Nint, Bytes, Text, Array, Map, Tag, Simple, rolls-Array, rolls-Map, rolls-Tag, outs-Array, outs-Map, outs-Tag}
 use Rattle.ecd_item.specs.declared.item.Pair.{Pair}
-use Rattle.ecd_item.specs.Encoding.{encoding, encodings, pair_encodings, pair_bytes, joined, both}
+use Rattle.ecd_item.specs.Encoding.{encoding, encodings, pair_encodings, key_bytes, pair_bytes, joined, both}
 use Rattle.ecd_item.specs.Valid.{key_of, IsValid, IsValidPair, AreValid, ArePairsValid, depth, depths, pair_depths, Ascend}
 
 pub encodings-row : (n : Count) (row : Row_of-Item n) → encodings row ≡ map encoding (items-the_row-Item n row)
@@ -95,6 +95,10 @@ encoding-Map ps =
 pub encoding-Tag : (n : ℕ) (x : Item) → encoding (Tag n x) ≡ head_bytes 6 n ++ encoding x
 unfolding encoding encodings hidden-the_row-Item-2 hidden
 encoding-Tag n x = ap (λ (t : List ℕ). head_bytes 6 n ++ t) (append-nil (encoding x))
+
+key_texts : (ps : List Pair) → map key_of (map pair_encoding ps) ≡ map key_bytes ps
+key_texts [] = refl
+key_texts (p ∷ ps) = ap (λ (t : List (List ℕ)). key_bytes p ∷ t) (key_texts ps)
 
 -- ---- depths
 
@@ -193,11 +197,11 @@ module _ (order : Order) where
       let all : AllByRecursion (IsValid order) (items-the_row-Item _ (hidden-the_row-Item-0 xs)) = coe_type (AreValid-row _ (hidden-the_row-Item-0 xs)) h.1 in
       (omega (arith, ap length (encodings-list xs), length-map xs encoding, h.0), subst (AllByRecursion (IsValid order)) (items_hidden-the_row-Item-0 xs) all)
 
-  pub valid_Map : (ps : List Pair) → IsValid order (Map ps) → (length ps < 2 ^ 64) × AllByRecursion (IsValidPair order) ps × Ascend order (map key_of (map pair_encoding ps))
+  pub valid_Map : (ps : List Pair) → IsValid order (Map ps) → (length ps < 2 ^ 64) × AllByRecursion (IsValidPair order) ps × Ascend order (map key_bytes ps)
   unfolding IsValid
   valid_Map ps h =
       let es = pairs-list ps in
-      (omega (arith, ap length es, length-map ps pair_encoding, h.0), subst (AllByRecursion (IsValidPair order)) (items_hidden-the_row-Pair-1 ps) (ArePairsValid-row _ (hidden-the_row-Pair-1 ps) h.1), subst (λ (es : List (List ℕ × List ℕ)). Ascend order (map key_of es)) es h.2)
+      (omega (arith, ap length es, length-map ps pair_encoding, h.0), subst (AllByRecursion (IsValidPair order)) (items_hidden-the_row-Pair-1 ps) (ArePairsValid-row _ (hidden-the_row-Pair-1 ps) h.1), subst (Ascend order) (ap (map key_of) es ∙ key_texts ps) h.2)
 
   pub valid_Tag : (n : ℕ) (x : Item) → IsValid order (Tag n x) → (n < 2 ^ 64) × IsValid order x
   unfolding IsValid AreValid hidden-the_row-Item-2 hidden
@@ -212,12 +216,12 @@ module _ (order : Order) where
       let all : AllByRecursion (IsValid order) (items-the_row-Item _ row) = subst (AllByRecursion (IsValid order)) (sym (items_hidden-the_row-Item-0 xs)) h in
       (omega (arith, ap length (encodings-list xs), length-map xs encoding), coe_type (sym (AreValid-row _ row)) all)
 
-  pub Map_valid : (ps : List Pair) → length ps < 2 ^ 64 → AllByRecursion (IsValidPair order) ps → Ascend order (map key_of (map pair_encoding ps)) → IsValid order (Map ps)
+  pub Map_valid : (ps : List Pair) → length ps < 2 ^ 64 → AllByRecursion (IsValidPair order) ps → Ascend order (map key_bytes ps) → IsValid order (Map ps)
   unfolding IsValid
   Map_valid ps lt h a =
       let row = hidden-the_row-Pair-1 ps in
       let es = pairs-list ps in
-      (omega (arith, ap length es, length-map ps pair_encoding), ArePairsValid-from _ row (subst (AllByRecursion (IsValidPair order)) (sym (items_hidden-the_row-Pair-1 ps)) h), subst (λ (es : List (List ℕ × List ℕ)). Ascend order (map key_of es)) (sym es) a)
+      (omega (arith, ap length es, length-map ps pair_encoding), ArePairsValid-from _ row (subst (AllByRecursion (IsValidPair order)) (sym (items_hidden-the_row-Pair-1 ps)) h), subst (Ascend order) (sym (ap (map key_of) es ∙ key_texts ps)) a)
 
   pub Tag_valid : (n : ℕ) (x : Item) → n < 2 ^ 64 → IsValid order x → IsValid order (Tag n x)
   unfolding IsValid AreValid hidden-the_row-Item-2 hidden

@@ -6,3 +6,4 @@ pub mod Lengths
 pub mod Emitting
 pub mod Bodies
 pub mod Comparing
+pub mod Whole

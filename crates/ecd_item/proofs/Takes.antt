@@ -24,10 +24,10 @@ use Rattle.ecd_item.specs.declared.item.Item.TheVariants.{Uint, Nint, Bytes, Tex
 use Rattle.ecd_item.specs.declared.item.Pair.{Pair}
 use Rattle.ecd_keyorder.specs.declared.Order.{Order}
 use Rattle.ecd_keyorder.specs.Order.{comparison}
-use Rattle.ecd_item.specs.Encoding.{encoding, joined}
-use Rattle.ecd_item.specs.Valid.{key_of, IsValid, depth, Ascend}
+use Rattle.ecd_item.specs.Encoding.{encoding, key_bytes, joined}
+use Rattle.ecd_item.specs.Valid.{IsValid, depth, Ascend}
 use Rattle.ecd_item.specs.Reading.{Reader, Taken, ◌>>=◌, taken, refused, headed, layer, behind, parts, item_at, inner_of, many, pairs, pair_of, string_at, text_at, made, is_above, is_less, cause_of, Gives, seen}
-use Rattle.ecd_item.proofs.Layers.{encoding-Array, encoding-Map, encoding-Tag, pair_encoding, pair_depth, greatest, depth-Array, depth-Map, depth-Tag, Array_valid, Map_valid, Tag_valid}
+use Rattle.ecd_item.proofs.Layers.{encoding-Array, encoding-Map, encoding-Tag, pair_depth, greatest, depth-Array, depth-Map, depth-Tag, Array_valid, Map_valid, Tag_valid}
 use Rattle.ecd_item.specs.Encoding.{pair_bytes}
 use Rattle.ecd_item.specs.Valid.{IsValidPair}
 use Rattle.ecd_item.proofs.Again.{ok_is, fine, follows, item_again}
@@ -123,7 +123,7 @@ module _ (order : Order) where
   record ArePairs (Q : Item → Type 0) (last : Option (List ℕ)) (n : ℕ) (ps : List Pair) : Type 0 where
     count : length ps ≡ n
     each : AllByRecursion (λ p. Q p.key × Q p.value) ps
-    ascends : follows order last (map key_of (map pair_encoding ps))
+    ascends : follows order last (map key_bytes ps)
 
   key_is : (at : ℕ) (bytes : List ℕ) (k : Taken Item) → bytes ≡ encoding k.value ++ k.rest → k.at ≡ at + length (encoding k.value) → take (k.at - at) bytes ≡ encoding k.value
   key_is at bytes k e f = rw (e, f) (take_at (encoding k.value) k.rest (at + length (encoding k.value) - at) (omega arith))
@@ -132,7 +132,7 @@ module _ (order : Order) where
       → Took pairs_text (ArePairs Q (Some kb) n) v.at v.rest o → taken (pair_of k.value v.value ∷ o.value) o.at o.rest ≡ Ok x → Took pairs_text (ArePairs Q last (suc n)) at bytes x
   pair_took Q last n at bytes kb k v o x p q ke above r e =
       let pv : Took pair_bytes (λ p. Q p.key × Q p.value) at bytes (record { value = pair_of k.value v.value; at = v.at; rest = v.rest }) = then encoding Q encoding Q pair_bytes (λ p. Q p.key × Q p.value) at bytes k v (pair_of k.value v.value) p q refl (p.holds, q.holds) in
-      let ascends : follows order last (map key_of (map pair_encoding (pair_of k.value v.value ∷ o.value))) = rw (← ke) (above, r.holds.ascends) in
+      let ascends : follows order last (map key_bytes (pair_of k.value v.value ∷ o.value)) = rw (← ke) (above, r.holds.ascends) in
       subst (Took pairs_text (ArePairs Q last (suc n)) at bytes) (ok_is (record { value = pair_of k.value v.value ∷ o.value; at = o.at; rest = o.rest }) x e)
           (then pair_bytes (λ p. Q p.key × Q p.value) pairs_text (ArePairs Q (Some kb) n) pairs_text (ArePairs Q last (suc n)) at bytes (record { value = pair_of k.value v.value; at = v.at; rest = v.rest }) o (pair_of k.value v.value ∷ o.value) pv r refl
               (record { count = ap suc r.holds.count; each = ((p.holds, q.holds), r.holds.each); ascends = ascends }))

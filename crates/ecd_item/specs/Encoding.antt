@@ -36,6 +36,10 @@ unfoldable mutual
   pair_encodings end_of-Pair = []
   pair_encodings (more_of-Pair key value rest) = (encoding key, encoding value) ∷ pair_encodings rest
 
+-- The bytes of a pair's key.
+abbrev pub key_bytes : Pair → List ℕ
+key_bytes pair = encoding pair.key
+
 -- A pair's bytes in its map.
 abbrev pub pair_bytes : Pair → List ℕ
 pair_bytes pair = encoding pair.key ++ encoding pair.value

@@ -6,6 +6,7 @@ mod fault;
 mod item;
 mod parts;
 mod read;
+mod valid;
 mod write;
 
 pub use ecd_head::NoRoom;
@@ -13,4 +14,5 @@ pub use ecd_list::{Boxed, ByteList, OutOfMemory};
 pub use fault::{Cause, ItemFault};
 pub use item::{Item, ItemList, Pair, PairList};
 pub use read::read_item;
+pub use valid::is_valid;
 pub use write::{length_of, write_item};

@@ -71,7 +71,7 @@ fn string_of(
     Ok((List::from_slice(alloc, &bytes[at..end])?, end))
 }
 
-fn is_text(bytes: &[u8]) -> bool
+pub(crate) fn is_text(bytes: &[u8]) -> bool
     ensures { result ≡ is_utf8 bytes.now }
 {
     str::from_utf8(bytes).is_ok()
