@@ -30,7 +30,7 @@ ok_is x y e = cc
 
 module _ (order : Order) where
   -- the reader reads what stands for the value, and stops behind it
-  abbrev Rereads : {A : Type 0} → Reader A → (A → List ℕ) → A → Type 0
+  abbrev pub Rereads : {A : Type 0} → Reader A → (A → List ℕ) → A → Type 0
   Rereads {A} read text x = (at : ℕ) (rest : List ℕ) → read at (text x ++ rest) ≡ taken x (at + length (text x)) rest
 
   pub item_at-layer : (d at : ℕ) (bytes : List ℕ) → item_at order d at bytes ≡ layer order (inner_of order d) at bytes
@@ -38,7 +38,7 @@ module _ (order : Order) where
   item_at-layer zero at bytes = refl
   item_at-layer (suc d) at bytes = refl
 
-  layer_again : (inner : Option (Reader Item)) (m a at : ℕ) (rest : List ℕ) → IsWritable m a → layer order inner at (head_bytes m a ++ rest) ≡ behind order inner at (record { major = m; arg = a }) (at + length (head_bytes m a)) rest
+  pub layer_again : (inner : Option (Reader Item)) (m a at : ℕ) (rest : List ℕ) → IsWritable m a → layer order inner at (head_bytes m a ++ rest) ≡ behind order inner at (record { major = m; arg = a }) (at + length (head_bytes m a)) rest
   unfolding layer
   layer_again inner m a at rest w = rw (head_again m a rest w, drop_at (head_bytes m a) rest (length (head_bytes m a)) refl) refl
 
@@ -63,15 +63,15 @@ module _ (order : Order) where
   follows last [] = Unit {0}
   follows last (key ∷ keys) = (is_above order last key ≡ true) × follows (Some key) keys
 
-  abbrev first_above : Option (List ℕ) → List (List ℕ) → Type 0
+  abbrev pub first_above : Option (List ℕ) → List (List ℕ) → Type 0
   first_above last [] = Unit {0}
   first_above last (key ∷ keys) = is_above order last key ≡ true
 
-  none_above : (keys : List (List ℕ)) → first_above None keys
+  pub none_above : (keys : List (List ℕ)) → first_above None keys
   none_above [] = tt
   none_above (key ∷ keys) = refl
 
-  follows-Ascend : (last : Option (List ℕ)) (keys : List (List ℕ)) → first_above last keys → Ascend order keys → follows last keys
+  pub follows-Ascend : (last : Option (List ℕ)) (keys : List (List ℕ)) → first_above last keys → Ascend order keys → follows last keys
   follows-Ascend last [] h a = tt
   follows-Ascend last (key ∷ []) h a = (h, tt)
   follows-Ascend last (key ∷ next ∷ keys) h a = (h, follows-Ascend (Some key) (next ∷ keys) (rw a.0 refl) a.1)
@@ -87,7 +87,7 @@ module _ (order : Order) where
       let len : at + length (encoding p.key) + length (encoding p.value) + length more ≡ at + length ((encoding p.key ++ encoding p.value) ++ more) = omega (arith, length-append (encoding p.key ++ encoding p.value) more, length-append (encoding p.key) (encoding p.value)) in
       rw (whole, h.0.0 at (encoding p.value ++ (more ++ rest)), front, f.0, h.0.1 (at + length (encoding p.key)) (more ++ rest), pairs_again read (Some (encoding p.key)) ps h.1 f.1 (at + length (encoding p.key) + length (encoding p.value)) rest, len) refl
 
-  atom : (m n : ℕ) → m < 7 → n < 2 ^ 64 → IsWritable m n
+  pub atom : (m n : ℕ) → m < 7 → n < 2 ^ 64 → IsWritable m n
   atom m n lt fits = record { known = omega arith; fits = fits; simple = λ e. absurd (omega arith) }
 
   abbrev P : Item → Type 0
@@ -107,7 +107,7 @@ module _ (order : Order) where
       let w : IsWritable 7 n = record { known = omega arith; fits = elim ok [ inl h ↦ omega arith | inr h ↦ omega arith ]; simple = λ e. ok } in
       headed_again d 7 n at [] rest (Simple n) w (sym (append-nil (head_bytes 7 n))) (ap (λ (k : ℕ). taken (Simple n) k rest) (omega arith))
 
-  string_again : (place at : ℕ) (bs rest : List ℕ) → string_at place (length bs) at (bs ++ rest) ≡ taken bs (at + length bs) rest
+  pub string_again : (place at : ℕ) (bs rest : List ℕ) → string_at place (length bs) at (bs ++ rest) ≡ taken bs (at + length bs) rest
   string_again place at bs rest =
       rw (le-ltb (length (bs ++ rest)) (length bs) (omega (arith, length-append bs rest)), take_at bs rest (length bs) refl, drop_at bs rest (length bs) refl) refl
 

@@ -7,3 +7,6 @@ pub mod Emitting
 pub mod Bodies
 pub mod Comparing
 pub mod Whole
+pub mod Refusing
+pub mod Naming
+pub mod Clauses

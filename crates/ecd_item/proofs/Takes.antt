@@ -125,7 +125,7 @@ module _ (order : Order) where
     each : AllByRecursion (λ p. Q p.key × Q p.value) ps
     ascends : follows order last (map key_bytes ps)
 
-  key_is : (at : ℕ) (bytes : List ℕ) (k : Taken Item) → bytes ≡ encoding k.value ++ k.rest → k.at ≡ at + length (encoding k.value) → take (k.at - at) bytes ≡ encoding k.value
+  pub key_is : (at : ℕ) (bytes : List ℕ) (k : Taken Item) → bytes ≡ encoding k.value ++ k.rest → k.at ≡ at + length (encoding k.value) → take (k.at - at) bytes ≡ encoding k.value
   key_is at bytes k e f = rw (e, f) (take_at (encoding k.value) k.rest (at + length (encoding k.value) - at) (omega arith))
 
   pair_took : (Q : Item → Type 0) (last : Option (List ℕ)) (n at : ℕ) (bytes kb : List ℕ) (k v : Taken Item) (o x : Taken (List Pair)) → Took encoding Q at bytes k → Took encoding Q k.at k.rest v → kb ≡ encoding k.value → is_above order last kb ≡ true
@@ -278,21 +278,3 @@ module _ (order : Order) where
   unfolding item_at inner_of
   item_takes zero = layer_takes zero tt
   item_takes (suc d) = layer_takes (suc d) (item_takes d)
-
-  -- ---- the clauses of the public call
-
-  only_by : (bytes : List ℕ) (r : Result (Item × ℕ) Stop) (i : Item) (end at : ℕ) (rest : List ℕ) → end ≡ at → Gives (seen bytes) r (taken i at rest) → Gives (λ x. x) r (fine (i, end))
-  only_by bytes (Err stop.Memory) i end at rest e g = tt
-  only_by bytes (Err (stop.Fault f)) i end at rest e g = absurd cc
-  only_by bytes (Ok x) i end at rest e g =
-      let t = ok_is (record { value = i; at = at; rest = rest }) (seen bytes x) g in
-      rw e (ap (λ (p : Taken Item). fine (p.value, p.at)) t)
-
-  pub is_found : (bytes : List ℕ) (at d : ℕ) (r : Result (Item × ℕ) Stop) → IsBytes bytes → Gives (seen bytes) r (item_at order d at (drop at bytes)) → IfOk r (λ x. IsValid order x.0 × (depth x.0 ≤ d) × StandsAt bytes at (encoding x.0) x.1)
-  is_found bytes at d (Err e) fits given = tt
-  is_found bytes at d (Ok x) fits given =
-      let t = item_takes d at (drop at bytes) (seen bytes x) (IsBytes-drop at bytes fits) given in
-      (t.holds.0, t.holds.1, record { there = (drop x.1 bytes, t.whole); behind = t.place })
-
-  pub is_only : (bytes : List ℕ) (at d : ℕ) (r : Result (Item × ℕ) Stop) (i : Item) (end : ℕ) → Gives (seen bytes) r (item_at order d at (drop at bytes)) → IsValid order i → depth i ≤ d → StandsAt bytes at (encoding i) end → Gives (λ x. x) r (fine (i, end))
-  is_only bytes at d r i end given valid deep s = only_by bytes r i end (at + length (encoding i)) s.there.0 s.behind (subst (Gives (seen bytes) r) (ap (item_at order d at) s.there.1 ∙ item_again order i d at s.there.0 deep valid) given)

@@ -14,6 +14,9 @@ use Rattle.ecd_item.specs.declared.fault.Cause.TheVariants as c
 use Rattle.ecd_item.specs.declared.fault.Fault.{Fault}
 use Rattle.ecd_item.specs.declared.fault.Stop.{Stop}
 use Rattle.ecd_item.specs.declared.fault.Stop.TheVariants as stop
+use Rattle.ecd_item.specs.declared.fault.ItemFault.{ItemFault}
+use Rattle.ecd_item.specs.declared.fault.ItemFault.TheVariants as f
+use Rattle.ecd_item.specs.FirstFault.{number_of}
 use Rattle.ecd_item.specs.declared.item.Item.{Item}
 use Rattle.ecd_item.specs.declared.item.Item.TheVariants.{Uint, Nint, Bytes, Text, Array, Map, Tag, Simple}
 use Rattle.ecd_item.specs.declared.item.Pair.{Pair}
@@ -115,18 +118,14 @@ unfoldable pub item_at : Order → ℕ → Reader Item
 item_at order zero = layer order None
 item_at order (suc d) = layer order (Some (item_at order d))
 
--- The number by which a fault names a cause.
-abbrev pub number_of : Cause → ℕ
-number_of c.Short = 1
-number_of c.Reserved = 2
-number_of c.Indefinite = 3
-number_of c.NotShortest = 4
-number_of c.Float = 5
-number_of c.BadSimple = 6
-number_of c.BadUtf8 = 7
-number_of c.KeyOrder = 8
-number_of c.TooDeep = 9
-number_of c.ShortString = 10
+-- What a caller is told of why reading stopped.
+abbrev pub told_as : Stop → ItemFault
+told_as stop.Memory = f.OutOfMemory
+told_as (stop.Fault fault) = f.At fault.place (number_of fault.cause)
+
+abbrev pub told_result : {A : Type 0} → Result A Stop → Result A ItemFault
+told_result (Ok x) = Ok x
+told_result (Err s) = Err (told_as s)
 
 -- What a function returned, seen by view, is what reading gives, unless memory ran out.
 abbrev pub Fails : {Y : Type 0} → Stop → Result Y Fault → Type 0

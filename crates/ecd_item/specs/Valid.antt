@@ -6,7 +6,7 @@ use Rattle.ecd_keyorder.specs.Order.{IsBefore}
 use Rattle.ecd_item.specs.declared.item.Item.{Item, Row_of-Item, end_of-Item, more_of-Item, Array', Map', Tag', Row_of-Pair, end_of-Pair, more_of-Pair}
 use Rattle.ecd_item.specs.declared.item.Item.TheVariants.{Uint, Nint, Bytes, Text, Simple}
 use Rattle.ecd_item.specs.declared.item.Pair.{Pair}
-use Rattle.ecd_item.specs.Encoding.{encodings, pair_encodings}
+use Rattle.ecd_item.specs.Encoding.{encoding, encodings, pair_encodings}
 
 -- The encoding of a pair's key.
 abbrev pub key_of : List ℕ × List ℕ → List ℕ
@@ -44,6 +44,10 @@ unfoldable mutual
 
 abbrev pub IsValidPair : Order → Pair → Type 0
 IsValidPair order pair = IsValid order pair.key × IsValid order pair.value
+
+-- The bytes are the item's encoding in the order.
+abbrev pub IsEncoding : Order → Item → List ℕ → Type 0
+IsEncoding order item bytes = IsValid order item × (bytes ≡ encoding item)
 
 -- How deep an item nests: an array, map or tag is one deeper than its deepest part, and every other item is 0 deep.
 unfoldable mutual

@@ -2,7 +2,8 @@
 
 ghost use Rattle.std.specs.Prelude.{◌≡◌};
 ghost use Rattle.ecd_item.specs.declared.fault.Stop.TheVariants as stop;
-ghost use Rattle.ecd_item.specs.Reading.{number_of};
+ghost use Rattle.ecd_item.specs.FirstFault.{number_of};
+ghost use Rattle.ecd_item.specs.Reading.{told_result};
 
 use ecd_list::OutOfMemory;
 use thiserror::Error;
@@ -87,5 +88,19 @@ impl From<OutOfMemory> for Stop {
 
     fn from(_refused: OutOfMemory) -> Stop {
         Stop::Memory
+    }
+}
+
+/// What was read, or the fault as a caller is told it.
+pub fn told<T: Drop>(read: Result<T, Stop>) -> Result<T, ItemFault>
+    ensures { result ≡ told_result read }
+{
+    match read {
+        Ok(found) => Ok(found),
+        Err(Stop::Memory) => Err(ItemFault::OutOfMemory),
+        Err(Stop::Fault(fault)) => Err(ItemFault::At {
+            place: fault.place,
+            cause: fault.cause.number(),
+        }),
     }
 }

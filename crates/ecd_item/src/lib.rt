@@ -7,6 +7,8 @@ mod item;
 mod parts;
 mod read;
 mod valid;
+
+pub mod laws;
 mod write;
 
 pub use ecd_head::NoRoom;

@@ -1,17 +1,20 @@
 //! Reading an item.
 
-ghost use Rattle.std.specs.Prelude.{◌≡◌, ℕ, ◌+◌, ◌-◌, ◌<◌, ◌≤◌, List, length, drop, take, IfOk, Ok, Option, Some, None};
+ghost use Rattle.std.specs.Prelude.{◌≡◌, ℕ, ◌+◌, ◌-◌, ◌<◌, ◌≤◌, List, length, drop, take, IfOk, IfErr, Ok, Err, Option, Some, None};
 ghost use Rattle.std.specs.Option.{option_copied};
 ghost use Rattle.std.specs.Str.{is_utf8};
 ghost use Rattle.ecd_head.specs.Fault.{head_at};
 ghost use Rattle.ecd_head.specs.Place.{StandsAt};
 ghost use Rattle.ecd_keyorder.specs.declared.Order.TheVariants.{Bytewise};
 ghost use Rattle.ecd_item.specs.Encoding.{encoding};
-ghost use Rattle.ecd_item.specs.Valid.{IsValid, depth as depth_of};
+ghost use Rattle.ecd_item.specs.Valid.{IsWhole};
+ghost use Rattle.ecd_item.specs.declared.fault.Cause.{Cause};
+ghost use Rattle.ecd_item.specs.declared.fault.ItemFault.TheVariants as ItemFault;
+ghost use Rattle.ecd_item.specs.FirstFault.{Answers, IsFirstFault, TellsFirstFault, number_of};
 ghost use Rattle.ecd_item.specs.declared.item.Item.{Item};
 ghost use Rattle.ecd_item.specs.Reading.{Gives, seen, headed, string_at, text_at, many, pairs, item_at, inner_of, layer, behind, parts, is_above, cause_of as cause_meant};
 
-use crate::fault::{Cause, Fault, Stop};
+use crate::fault::{Cause, Fault, ItemFault, Stop, told};
 use crate::item::{Item, Pair};
 use ecd_head::{Head, HeadFault, read_head};
 use ecd_keyorder::{Order, compare};
@@ -246,20 +249,29 @@ fn may_follow(last: Option<&[u8]>, key: &[u8]) -> bool
     }
 }
 
-/// The item whose encoding stands at a place, and the place behind it.
+/// The item whose encoding stands at a place, of at most this depth, and the place behind it (RFC 8949, sections 3 and 4.2.1).
+///
+/// # Errors
+///
+/// `ItemFault::At` with the first head's place at which something stands against an item, and the number of its `Cause`:
+/// at a head 1 to 6; at a string's head 10 where it is longer than what is left, and else 7; 9 at the head that passes the depth;
+/// 8 at a whole key that is not above the one before it. Or `ItemFault::OutOfMemory`.
 pub fn read_item(
     alloc: Global,
     bytes: &[u8],
     at: usize,
     depth: u8,
-) -> Result<(Item, usize), Stop>
-    requires { at ≤ length bytes.now }
-    // What is read stands there.
-    ensures found { IfOk result (λ x. IsValid Bytewise x.0 × (depth_of x.0 ≤ depth) × StandsAt bytes.now at (encoding x.0) x.1) }
-    // What stands there is read, unless memory runs out.
-    ensures only { (item : Item) (end : ℕ) → IsValid Bytewise item → depth_of item ≤ depth → StandsAt bytes.now at (encoding item) end → Gives (λ x. x) result (Ok (item, end)) }
-    // Which fault it is.
-    ensures exact { Gives (seen bytes.now) result (item_at Bytewise depth at (drop at bytes.now)) }
+) -> Result<(Item, usize), ItemFault>
+    requires within { at ≤ length bytes.now }
+    requires shallow { depth ≤ 64 }
+
+    // What is read stands there, and what stands there is read.
+    ensures found { IfOk result (λ x. IsWhole Bytewise depth x.0 × StandsAt bytes.now at (encoding x.0) x.1) }
+    ensures only { (item : Item) (end : ℕ) → IsWhole Bytewise depth item → StandsAt bytes.now at (encoding item) end → Answers result (Ok (item, end)) }
+
+    // The first fault is named, and where there is one it is.
+    ensures fault { IfErr result (TellsFirstFault Bytewise depth at (drop at bytes.now)) }
+    ensures refused { (place : ℕ) (cause : Cause) → IsFirstFault Bytewise depth at (drop at bytes.now) place cause → Answers result (Err (ItemFault.At place (number_of cause))) }
 {
-    item_of(alloc, bytes, at, depth)
+    told(item_of(alloc, bytes, at, depth))
 }
