@@ -1,5 +1,5 @@
 -- Why no head stands at the front of some bytes: RFC 8949, sections 3, 3.2, 3.3 and 4.2.1.
-use Rattle.std.specs.Prelude.{◌≡◌, ℕ, ◌+◌, ◌/◌, ◌%◌, ◌^◌, ◌&&◌, List, [], ◌∷◌, length, take, Option, Some, None, Result, Ok, Err, nat_lt, ◌==◌, if◌then◌else◌, slice_index}
+use Rattle.std.specs.Prelude.{ℕ, ◌+◌, ◌/◌, ◌%◌, ◌^◌, ◌&&◌, List, [], ◌∷◌, length, take, Option, Some, None, Result, Ok, Err, nat_lt, ◌==◌, if◌then◌else◌, slice_index}
 use Rattle.std.specs.Int.{w16, w32, w64, from_be_bytes}
 use Rattle.ecd_head.specs.declared.HeadFault.{HeadFault}
 use Rattle.ecd_head.specs.declared.HeadFault.TheVariants.{Short, Reserved, Indefinite, NotShortest, Float, BadSimple}

@@ -1,5 +1,5 @@
 -- The steps by which a head is read: the argument, then what may be said against it.
-use Rattle.std.specs.Prelude.{◌≡◌, ℕ, ◌+◌, ◌&&◌, List, length, take, Result, Ok, Err, nat_lt, ◌==◌, if◌then◌else◌, slice_index}
+use Rattle.std.specs.Prelude.{ℕ, ◌+◌, ◌&&◌, List, length, take, Result, Ok, Err, nat_lt, ◌==◌, if◌then◌else◌, slice_index}
 use Rattle.std.specs.Int.{Width, w16, w32, w64, byte_len, from_be_bytes}
 use Rattle.ecd_head.specs.declared.HeadFault.{HeadFault}
 use Rattle.ecd_head.specs.declared.HeadFault.TheVariants.{Short, Reserved, Indefinite, NotShortest, Float, BadSimple}

@@ -1,24 +1,21 @@
 -- What was written is read again.
-use Rattle.std.proofs.Common.{◌≡◌, ℕ, zero, suc, ◌+◌, ◌-◌, ◌<◌, ◌≤◌, ◌^◌, ◌⊎◌, Bool, true, false, cond, List, [], ◌∷◌, ◌++◌, length, take, drop, map, Option, Some, None, Result, Ok, Err, refl, ap, sym, ◌∙◌, subst, arith, rules, append_assoc, inl, inr}
+use Rattle.std.proofs.Common.{◌≡◌, ℕ, zero, suc, ◌+◌, ◌-◌, ◌<◌, ◌≤◌, ◌^◌, true, List, [], ◌∷◌, ◌++◌, length, take, map, Option, Some, None, Result, Ok, refl, ap, sym, ◌∙◌, arith, append_assoc, inl, inr}
 use Rattle.std.specs.List.{AllByRecursion}
 use Rattle.std.specs.Prelude.{max}
-use Rattle.std.specs.Str.{IsUtf8, is_utf8}
 use Rattle.std.proofs.lemmas.Str.{is_utf8-from_IsUtf8}
-use Rattle.std.proofs.lemmas.List.{take_at, drop_at, length-append, length-map, append-nil}
+use Rattle.std.proofs.lemmas.List.{take_at, drop_at, length-append, append-nil}
 use Rattle.std.proofs.lemmas.Bool.{le-ltb}
 use Rattle.ecd_head.specs.Head.{IsWritable, head_bytes}
-use Rattle.ecd_head.specs.Fault.{head_at}
 use Rattle.ecd_head.proofs.Heads.{head_again}
 use Rattle.ecd_item.specs.declared.fault.Fault.{Fault}
 use Rattle.ecd_item.specs.declared.item.Item.{Item}
 use Rattle.ecd_item.specs.declared.item.Item.TheVariants.{Uint, Nint, Bytes, Text, Array, Map, Tag, Simple}
 use Rattle.ecd_item.specs.declared.item.Pair.{Pair}
 use Rattle.ecd_keyorder.specs.declared.Order.{Order}
-use Rattle.ecd_keyorder.specs.Order.{comparison}
 use Rattle.ecd_item.specs.Encoding.{encoding, key_bytes, joined}
 use Rattle.ecd_item.specs.Valid.{IsValid, depth, Ascend}
-use Rattle.ecd_item.specs.Reading.{Reader, Taken, ◌>>=◌, taken, headed, layer, behind, parts, item_at, many, pairs, string_at, text_at, made, is_above, inner_of}
-use Rattle.ecd_item.proofs.Layers.{encoding-Array, encoding-Map, encoding-Tag, pair_depth, greatest, depth-Array, depth-Map, depth-Tag, valid_Array, valid_Map, valid_Tag, Cases, item_ind}
+use Rattle.ecd_item.specs.Reading.{Reader, Taken, taken, layer, behind, parts, item_at, many, pairs, string_at, is_above, inner_of}
+use Rattle.ecd_item.proofs.Layers.{encoding-Array, encoding-Map, encoding-Tag, pair_depth, greatest, depth-Array, depth-Map, depth-Tag, valid_Array, valid_Map, valid_Tag, item_ind}
 use Rattle.ecd_item.specs.Encoding.{pair_bytes}
 use Rattle.ecd_item.specs.Valid.{IsValidPair}
 
@@ -133,7 +130,7 @@ module _ (order : Order) where
       let v = valid_Array order xs ok in
       let each = parts_again d xs all (omega (arith, depth-Array xs)) v.1 in
       headed_again (suc d) 4 (length xs) at (joined (map encoding xs)) rest (Array xs) (atom 4 (length xs) (omega arith) v.0) (encoding-Array xs)
-          (rw (many_again (item_at order d) encoding xs each) refl)
+      (rw (many_again (item_at order d) encoding xs each) refl)
 
   pairs_parts_again : (d : ℕ) (ps : List Pair) → AllByRecursion (λ p. P p.key × P p.value) ps → greatest (map pair_depth ps) ≤ d → AllByRecursion (IsValidPair order) ps → AllByRecursion (λ p. Rereads (item_at order d) encoding p.key × Rereads (item_at order d) encoding p.value) ps
   pairs_parts_again d [] all deep ok = tt
@@ -147,7 +144,7 @@ module _ (order : Order) where
       let each = pairs_parts_again d ps all (omega (arith, depth-Map ps)) v.1 in
       let f = follows-Ascend None (map key_bytes ps) (none_above (map key_bytes ps)) v.2 in
       headed_again (suc d) 5 (length ps) at (joined (map pair_bytes ps)) rest (Map ps) (atom 5 (length ps) (omega arith) v.0) (encoding-Map ps)
-          (rw (pairs_again (item_at order d) None ps each f) refl)
+      (rw (pairs_again (item_at order d) None ps each f) refl)
 
   again_tag : (n : ℕ) (x : Item) → P x → P (Tag n x)
   unfolding behind parts inner_of
@@ -155,7 +152,7 @@ module _ (order : Order) where
   again_tag n x all (suc d) at rest deep ok =
       let v = valid_Tag order n x ok in
       headed_again (suc d) 6 n at (encoding x) rest (Tag n x) (atom 6 n (omega arith) v.0) (encoding-Tag n x)
-          (rw (all d (at + length (head_bytes 6 n)) rest (omega (arith, depth-Tag n x)) v.1) refl)
+      (rw (all d (at + length (head_bytes 6 n)) rest (omega (arith, depth-Tag n x)) v.1) refl)
 
   pub item_again : (i : Item) (d at : ℕ) (rest : List ℕ) → depth i ≤ d → IsValid order i → item_at order d at (encoding i ++ rest) ≡ taken i (at + length (encoding i)) rest
   item_again = item_ind P (record { uint = again_uint; nint = again_nint; bytes = again_bytes; text = again_text; array = again_array; pairs = again_map; tag = again_tag; simple = again_simple })
@@ -171,4 +168,4 @@ module _ (order : Order) where
   one_item i j x y p q e =
       let d = max (depth i) (depth j) in
       same_taken i j (0 + length (encoding i)) (0 + length (encoding j)) x y
-          (sym (item_again i d 0 x (omega arith) p) ∙ (ap (item_at order d 0) e ∙ item_again j d 0 y (omega arith) q))
+      (sym (item_again i d 0 x (omega arith) p) ∙ (ap (item_at order d 0) e ∙ item_again j d 0 y (omega arith) q))

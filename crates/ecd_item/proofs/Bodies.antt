@@ -1,20 +1,15 @@
 -- An item's head and what follows it, at lists.
-use Rattle.std.proofs.Common.{◌≡◌, ℕ, ◌+◌, ◌<◌, ◌≤◌, ◌^◌, List, [], ◌∷◌, ◌++◌, length, map, Option, Some, None, refl, ap, sym, ◌∙◌, subst, arith, rules, inl, inr}
-use Rattle.std.specs.List.{AllByRecursion}
+use Rattle.std.proofs.Common.{◌≡◌, ℕ, List, [], length, map, Some, None, refl, ap, ◌∙◌}
 use Rattle.std.proofs.lemmas.List.{append-nil}
-use Rattle.ecd_head.specs.Head.{head_bytes, IsWritable}
-use Rattle.ecd_keyorder.specs.declared.Order.{Order}
 use denote.Hole.Carrier.{hidden}
-use Rattle.ecd_item.specs.declared.item.Item.{Item, items-the_row-Item, items-the_row-Pair}
-use Rattle.ecd_item.specs.declared.item.Item.TheBlock.{hidden-the_row-Item-0, hidden-the_row-Pair-1, hidden-the_row-Item-2, items_hidden-the_row-Item-0, items_hidden-the_row-Pair-1}
+use Rattle.ecd_item.specs.declared.item.Item.{Item}
+use Rattle.ecd_item.specs.declared.item.Item.TheBlock.{hidden-the_row-Item-2, items_hidden-the_row-Item-0, items_hidden-the_row-Pair-1}
 use Rattle.ecd_item.specs.declared.item.Item.TheVariants.{Uint, Nint, Bytes, Text, Array, Map, Tag, Simple}
 use Rattle.ecd_item.specs.declared.item.Pair.{Pair}
-use Rattle.ecd_item.specs.Encoding.{encoding, encodings, pair_encodings, joined, both}
-use Rattle.ecd_item.specs.Valid.{IsValid}
+use Rattle.ecd_item.specs.Encoding.{encoding, encodings, joined, both}
 use Rattle.ecd_item.specs.Parts.{head_from, head_of, body_of, string_in, items_in, pairs_in, enclosed_in}
-use Rattle.ecd_item.proofs.Layers.{encodings-list, pairs-list, pair_encoding, pair_texts, encoding-Uint, encoding-Nint, encoding-Bytes, encoding-Text, encoding-Simple, encoding-Array, encoding-Map, encoding-Tag, valid_Array, valid_Map, valid_Tag, Cases, item_ind}
+use Rattle.ecd_item.proofs.Layers.{encodings-list, pairs-list, pair_texts}
 use Rattle.ecd_item.specs.Encoding.{pair_bytes}
-use Rattle.ecd_item.specs.Valid.{IsValidPair}
 
 -- ---- heads
 
@@ -231,4 +226,3 @@ unfolding enclosed_in
 enclosed_in-Simple n = refl
 
 pub ruleset tags = (enclosed_in-Uint, enclosed_in-Nint, enclosed_in-Bytes, enclosed_in-Text, enclosed_in-Array, enclosed_in-Map, enclosed_in-Tag, enclosed_in-Simple)
-

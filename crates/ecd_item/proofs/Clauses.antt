@@ -1,6 +1,6 @@
 -- The clauses of reading, from what the reader does.
-use Rattle.std.proofs.Common.{◌≡◌, ℕ, ◌+◌, ◌<◌, ◌≤◌, ◌⊎◌, List, [], ◌∷◌, ◌++◌, length, take, drop, get_or, Result, Ok, Err, refl, ap, sym, ◌∙◌, subst, arith, inl, inr}
-use Rattle.std.specs.Prelude.{IfOk, IfErr, max, All}
+use Rattle.std.proofs.Common.{◌≡◌, ℕ, ◌+◌, ◌<◌, List, [], ◌++◌, length, drop, Result, Ok, Err, refl, ap, sym, ◌∙◌, subst, arith, inl, inr}
+use Rattle.std.specs.Prelude.{IfOk, IfErr, All}
 use Rattle.std.proofs.lemmas.List.{append-nil, get_or_past}
 use Rattle.std.proofs.lemmas.List.Elements.{All-get_or}
 use Rattle.std.proofs.lemmas.Bool.{cases_lt}
@@ -15,10 +15,10 @@ use Rattle.ecd_item.specs.declared.fault.ItemFault.{ItemFault}
 use Rattle.ecd_item.specs.declared.fault.ItemFault.TheVariants as f
 use Rattle.ecd_item.specs.declared.item.Item.{Item}
 use Rattle.ecd_item.specs.Encoding.{encoding}
-use Rattle.ecd_item.specs.Valid.{IsWhole, IsValid, IsEncoding, depth}
+use Rattle.ecd_item.specs.Valid.{IsWhole}
 use Rattle.ecd_item.specs.FirstFault.{IsFirstFault, TellsFirstFault, Answers, number_of}
 use Rattle.ecd_item.specs.Laws.{HasOneEncoding, EncodesOneItem, HasNoProperPrefix, BeginsWithOneItem, HasOneFirstFault, EncodingHasNoFault, IsItemOrFault, EveryBytesHaveOne}
-use Rattle.ecd_item.specs.Reading.{Taken, taken, item_at, Gives, Fails, seen, told_result}
+use Rattle.ecd_item.specs.Reading.{Taken, taken, item_at, Gives, seen, told_result}
 use Rattle.ecd_item.proofs.Again.{ok_is, fine, item_again, one_item}
 use Rattle.ecd_item.proofs.Takes.{item_takes}
 use Rattle.ecd_item.proofs.Refusing.{item_stops}
@@ -93,7 +93,7 @@ has_one_first_fault order d at bytes place other cause another s t =
 pub encoding_has_no_fault : EncodingHasNoFault
 encoding_has_no_fault order d at item rest place cause w s =
     not_both (record { value = item; at = at + length (encoding item); rest = rest }) (record { place = place; cause = cause })
-      (sym (item_again order item d at rest w.1 w.0) ∙ first_named order d at (encoding item ++ rest) place cause s)
+    (sym (item_again order item d at rest w.1 w.0) ∙ first_named order d at (encoding item ++ rest) place cause s)
 
 item_or_fault : (order : Order) (d at : ℕ) (bytes : List ℕ) (r : Result (Taken Item) Fault) → IsBytes bytes → item_at order d at bytes ≡ r → IsItemOrFault order d at bytes
 item_or_fault order d at bytes (Ok x) fits e = let t = item_takes order d at bytes x fits e in inl (x.value, x.rest, t.holds, t.whole)

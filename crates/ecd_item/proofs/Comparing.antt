@@ -1,29 +1,26 @@
 -- The order of two encodings is that of their heads, then of what follows.
-use Rattle.std.proofs.Common.{◌≡◌, ℕ, zero, suc, ◌+◌, ◌<◌, ◌≤◌, ◌^◌, ◌⊎◌, Bool, true, false, List, [], ◌∷◌, ◌++◌, length, map, take, drop, get_or, Option, Some, None, refl, ap, sym, ◌∙◌, subst, arith, rules, inl, inr, append_assoc}
+use Rattle.std.proofs.Common.{◌≡◌, ℕ, zero, suc, ◌+◌, ◌<◌, ◌≤◌, ◌^◌, ◌⊎◌, true, false, List, [], ◌∷◌, ◌++◌, length, map, take, drop, get_or, Some, None, refl, ap, sym, ◌∙◌, subst, arith, inl, inr, append_assoc}
 use Rattle.std.specs.List.{AllByRecursion}
 use Rattle.std.specs.Ordering.{nat_cmp, ordering_then, is_ne}
 use Rattle.std.specs.Cmp.Lexicographic.{slice_cmp}
 use Rattle.std.specs.declared.cmp.Ordering.{Ordering}
 use Rattle.std.specs.declared.cmp.Ordering.TheVariants.{Less, Equal, Greater}
 use Rattle.std.proofs.lemmas.Map.Lookups.{exact_unsigned, exact_bytes}
-use Rattle.std.proofs.lemmas.Cmp.{nat_cmp_total, nat_list_cmp_total}
-use Rattle.std.proofs.lemmas.List.{append-nil, take_all, length-append, take_at}
+use Rattle.std.proofs.lemmas.List.{append-nil, take_all, take_at}
 use Rattle.ecd_head.specs.declared.Head.{Head}
 use Rattle.ecd_head.specs.Head.{head_bytes, IsWritable}
-use Rattle.ecd_head.specs.Place.{WritesAt}
 use Rattle.ecd_head.proofs.Heads.{one_head}
 use Rattle.ecd_keyorder.specs.declared.Order.{Order}
 use Rattle.ecd_keyorder.specs.declared.Order.TheVariants.{Bytewise}
-use Rattle.ecd_keyorder.specs.Order.{comparison}
 use Rattle.ecd_keyorder.proofs.Total.{equal_is_same}
 use Rattle.ecd_item.specs.declared.item.Item.{Item}
 use Rattle.ecd_item.specs.declared.item.Item.TheVariants.{Uint, Nint, Bytes, Text, Array, Map, Tag, Simple}
 use Rattle.ecd_item.specs.declared.item.Pair.{Pair}
 use Rattle.ecd_item.specs.Encoding.{encoding, pair_bytes, joined}
 use Rattle.ecd_item.specs.Valid.{IsValid, IsValidPair}
-use Rattle.ecd_item.specs.Parts.{head_from, head_of, body_of, string_in, items_in, pairs_in, enclosed_in}
+use Rattle.ecd_item.specs.Parts.{head_of, body_of, string_in, items_in, pairs_in, enclosed_in}
 use Rattle.ecd_item.specs.Writing.{Emits}
-use Rattle.ecd_item.proofs.Layers.{encoding-Uint, encoding-Nint, encoding-Bytes, encoding-Text, encoding-Simple, encoding-Array, encoding-Map, encoding-Tag, valid_Array, valid_Map, valid_Tag, Cases, item_ind}
+use Rattle.ecd_item.proofs.Layers.{encoding-Uint, encoding-Nint, encoding-Bytes, encoding-Text, encoding-Simple, encoding-Array, encoding-Map, encoding-Tag, valid_Array, valid_Map, valid_Tag, item_ind}
 use Rattle.ecd_item.proofs.Bodies.{head_of-Uint, head_of-Nint, head_of-Bytes, head_of-Text, head_of-Array, head_of-Map, head_of-Tag, head_of-Simple, body_of-Uint, body_of-Nint, body_of-Bytes, body_of-Text, body_of-Array, body_of-Map, body_of-Tag, body_of-Simple, string_in-Bytes, string_in-Text, items_in-Array, pairs_in-Map, enclosed_in-Tag}
 use Rattle.ecd_item.proofs.Again.{one_item}
 use Rattle.ecd_item.proofs.Emitting.{at_place}
@@ -42,7 +39,7 @@ cmp_split [] (b ∷ bs) x y h = absurd (let e : [] ≡ b ∷ bs = h (b ∷ bs) [
 cmp_split (a ∷ as') [] x y h = absurd (let e : a ∷ as' ≡ [] = h [] (a ∷ as') (append-nil (a ∷ as')) in cc)
 cmp_split (a ∷ as') (b ∷ bs) x y h =
     by_head (nat_cmp a b) (cmp (as' ++ x) (bs ++ y)) (cmp as' bs) (cmp x y)
-        (λ e. cmp_split as' bs x y (λ u w g. let both : a ∷ as' ≡ b ∷ bs = h u w (ap (λ (t : List ℕ). a ∷ t) g ∙ ap (λ (n : ℕ). n ∷ (bs ++ w)) (exact_unsigned a b e)) in cc))
+    (λ e. cmp_split as' bs x y (λ u w g. let both : a ∷ as' ≡ b ∷ bs = h u w (ap (λ (t : List ℕ). a ∷ t) g ∙ ap (λ (n : ℕ). n ∷ (bs ++ w)) (exact_unsigned a b e)) in cc))
   where
     by_head : (o p q r : Ordering) → (o ≡ Equal → p ≡ ordering_then q r) → ordering_then o p ≡ ordering_then (ordering_then o q) r
     by_head Less p q r f = refl
@@ -95,15 +92,15 @@ Splits i = encoding i ≡ head_text (head_of i) ++ body_of i
 
 pub head_body : (i : Item) → Splits i
 head_body = item_ind Splits (record {
-    uint = λ n. rw (encoding-Uint n, head_of-Uint n, body_of-Uint n) (sym (append-nil (head_bytes 0 n)));
-    nint = λ n. rw (encoding-Nint n, head_of-Nint n, body_of-Nint n) (sym (append-nil (head_bytes 1 n)));
-    bytes = λ bs. rw (encoding-Bytes bs, head_of-Bytes bs, body_of-Bytes bs) refl;
-    text = λ bs. rw (encoding-Text bs, head_of-Text bs, body_of-Text bs) refl;
-    array = λ xs h. rw (encoding-Array xs, head_of-Array xs, body_of-Array xs) refl;
-    pairs = λ ps h. rw (encoding-Map ps, head_of-Map ps, body_of-Map ps) refl;
-    tag = λ n x h. rw (encoding-Tag n x, head_of-Tag n x, body_of-Tag n x) refl;
-    simple = λ n. rw (encoding-Simple n, head_of-Simple n, body_of-Simple n) (sym (append-nil (head_bytes 7 n)));
-  })
+  uint = λ n. rw (encoding-Uint n, head_of-Uint n, body_of-Uint n) (sym (append-nil (head_bytes 0 n)));
+  nint = λ n. rw (encoding-Nint n, head_of-Nint n, body_of-Nint n) (sym (append-nil (head_bytes 1 n)));
+  bytes = λ bs. rw (encoding-Bytes bs, head_of-Bytes bs, body_of-Bytes bs) refl;
+  text = λ bs. rw (encoding-Text bs, head_of-Text bs, body_of-Text bs) refl;
+  array = λ xs h. rw (encoding-Array xs, head_of-Array xs, body_of-Array xs) refl;
+  pairs = λ ps h. rw (encoding-Map ps, head_of-Map ps, body_of-Map ps) refl;
+  tag = λ n x h. rw (encoding-Tag n x, head_of-Tag n x, body_of-Tag n x) refl;
+  simple = λ n. rw (encoding-Simple n, head_of-Simple n, body_of-Simple n) (sym (append-nil (head_bytes 7 n)));
+})
 
 low_head : (m n : ℕ) → m < 7 → n < 2 ^ 64 → IsWritable m n
 low_head m n lt fits = record { known = omega arith; fits = fits; simple = λ e. absurd (omega arith) }
@@ -115,15 +112,15 @@ module _ (order : Order) where
   pub head_writable : (i : Item) → Writes i
   unfolding IsValid
   head_writable = item_ind Writes (record {
-      uint = λ n v. rw (head_of-Uint n) (low_head 0 n (omega arith) v);
-      nint = λ n v. rw (head_of-Nint n) (low_head 1 n (omega arith) v);
-      bytes = λ bs v. rw (head_of-Bytes bs) (low_head 2 (length bs) (omega arith) v);
-      text = λ bs v. rw (head_of-Text bs) (low_head 3 (length bs) (omega arith) v.0);
-      array = λ xs h v. rw (head_of-Array xs) (low_head 4 (length xs) (omega arith) (valid_Array order xs v).0);
-      pairs = λ ps h v. rw (head_of-Map ps) (low_head 5 (length ps) (omega arith) (valid_Map order ps v).0);
-      tag = λ n x h v. rw (head_of-Tag n x) (low_head 6 n (omega arith) (valid_Tag order n x v).0);
-      simple = λ n v. rw (head_of-Simple n) (record { known = omega arith; fits = elim v [ inl g ↦ omega arith | inr g ↦ omega arith ]; simple = λ e. v });
-    })
+    uint = λ n v. rw (head_of-Uint n) (low_head 0 n (omega arith) v);
+    nint = λ n v. rw (head_of-Nint n) (low_head 1 n (omega arith) v);
+    bytes = λ bs v. rw (head_of-Bytes bs) (low_head 2 (length bs) (omega arith) v);
+    text = λ bs v. rw (head_of-Text bs) (low_head 3 (length bs) (omega arith) v.0);
+    array = λ xs h v. rw (head_of-Array xs) (low_head 4 (length xs) (omega arith) (valid_Array order xs v).0);
+    pairs = λ ps h v. rw (head_of-Map ps) (low_head 5 (length ps) (omega arith) (valid_Map order ps v).0);
+    tag = λ n x h v. rw (head_of-Tag n x) (low_head 6 n (omega arith) (valid_Tag order n x v).0);
+    simple = λ n v. rw (head_of-Simple n) (record { known = omega arith; fits = elim v [ inl g ↦ omega arith | inr g ↦ omega arith ]; simple = λ e. v });
+  })
 
   pub items_apart : (i j : Item) → IsValid order i → IsValid order j → Apart (encoding i) (encoding j)
   items_apart i j p q u w e = ap encoding (one_item order i j u w p q e).0
@@ -163,28 +160,28 @@ heads_same a b g h o eg eh p q e ne =
 plain_body : (i : Item) → ((head_of i).major < 2) ⊎ ((head_of i).major ≡ 7) → body_of i ≡ []
 unfolding head_of
 plain_body = item_ind (λ i. ((head_of i).major < 2) ⊎ ((head_of i).major ≡ 7) → body_of i ≡ []) (record {
-    uint = λ n h. body_of-Uint n;
-    nint = λ n h. body_of-Nint n;
-    bytes = λ bs h. absurd (elim h [ inl l ↦ omega arith | inr e ↦ omega arith ]);
-    text = λ bs h. absurd (elim h [ inl l ↦ omega arith | inr e ↦ omega arith ]);
-    array = λ xs r h. absurd (elim h [ inl l ↦ omega arith | inr e ↦ omega arith ]);
-    pairs = λ ps r h. absurd (elim h [ inl l ↦ omega arith | inr e ↦ omega arith ]);
-    tag = λ n x r h. absurd (elim h [ inl l ↦ omega arith | inr e ↦ omega arith ]);
-    simple = λ n h. body_of-Simple n;
-  })
+  uint = λ n h. body_of-Uint n;
+  nint = λ n h. body_of-Nint n;
+  bytes = λ bs h. absurd (elim h [ inl l ↦ omega arith | inr e ↦ omega arith ]);
+  text = λ bs h. absurd (elim h [ inl l ↦ omega arith | inr e ↦ omega arith ]);
+  array = λ xs r h. absurd (elim h [ inl l ↦ omega arith | inr e ↦ omega arith ]);
+  pairs = λ ps r h. absurd (elim h [ inl l ↦ omega arith | inr e ↦ omega arith ]);
+  tag = λ n x r h. absurd (elim h [ inl l ↦ omega arith | inr e ↦ omega arith ]);
+  simple = λ n h. body_of-Simple n;
+})
 
 string_body : (i : Item) → ((head_of i).major ≡ 2) ⊎ ((head_of i).major ≡ 3) → body_of i ≡ string_in i
 unfolding head_of
 string_body = item_ind (λ i. ((head_of i).major ≡ 2) ⊎ ((head_of i).major ≡ 3) → body_of i ≡ string_in i) (record {
-    uint = λ n h. absurd (elim h [ inl l ↦ omega arith | inr e ↦ omega arith ]);
-    nint = λ n h. absurd (elim h [ inl l ↦ omega arith | inr e ↦ omega arith ]);
-    bytes = λ bs h. body_of-Bytes bs ∙ sym (string_in-Bytes bs);
-    text = λ bs h. body_of-Text bs ∙ sym (string_in-Text bs);
-    array = λ xs r h. absurd (elim h [ inl l ↦ omega arith | inr e ↦ omega arith ]);
-    pairs = λ ps r h. absurd (elim h [ inl l ↦ omega arith | inr e ↦ omega arith ]);
-    tag = λ n x r h. absurd (elim h [ inl l ↦ omega arith | inr e ↦ omega arith ]);
-    simple = λ n h. absurd (elim h [ inl l ↦ omega arith | inr e ↦ omega arith ]);
-  })
+  uint = λ n h. absurd (elim h [ inl l ↦ omega arith | inr e ↦ omega arith ]);
+  nint = λ n h. absurd (elim h [ inl l ↦ omega arith | inr e ↦ omega arith ]);
+  bytes = λ bs h. body_of-Bytes bs ∙ sym (string_in-Bytes bs);
+  text = λ bs h. body_of-Text bs ∙ sym (string_in-Text bs);
+  array = λ xs r h. absurd (elim h [ inl l ↦ omega arith | inr e ↦ omega arith ]);
+  pairs = λ ps r h. absurd (elim h [ inl l ↦ omega arith | inr e ↦ omega arith ]);
+  tag = λ n x r h. absurd (elim h [ inl l ↦ omega arith | inr e ↦ omega arith ]);
+  simple = λ n h. absurd (elim h [ inl l ↦ omega arith | inr e ↦ omega arith ]);
+})
 
 record ArrayParts (i : Item) : Type 0 where
   text : body_of i ≡ joined (map encoding (items_in i))
@@ -193,23 +190,23 @@ record ArrayParts (i : Item) : Type 0 where
 
 array_parts_of : (xs : List Item) → ArrayParts (Array xs)
 array_parts_of xs = record {
-    text = body_of-Array xs ∙ ap (λ (ys : List Item). joined (map encoding ys)) (sym (items_in-Array xs));
-    count = ap length (items_in-Array xs) ∙ sym (ap (λ (h : Head). h.arg) (head_of-Array xs));
-    valid = λ v. subst (AllByRecursion (IsValid Bytewise)) (sym (items_in-Array xs)) (valid_Array Bytewise xs v).1;
-  }
+  text = body_of-Array xs ∙ ap (λ (ys : List Item). joined (map encoding ys)) (sym (items_in-Array xs));
+  count = ap length (items_in-Array xs) ∙ sym (ap (λ (h : Head). h.arg) (head_of-Array xs));
+  valid = λ v. subst (AllByRecursion (IsValid Bytewise)) (sym (items_in-Array xs)) (valid_Array Bytewise xs v).1;
+}
 
 array_parts : (i : Item) → (head_of i).major ≡ 4 → ArrayParts i
 unfolding head_of
 array_parts = item_ind (λ i. (head_of i).major ≡ 4 → ArrayParts i) (record {
-    uint = λ n h. absurd (omega arith);
-    nint = λ n h. absurd (omega arith);
-    bytes = λ bs h. absurd (omega arith);
-    text = λ bs h. absurd (omega arith);
-    array = λ xs r h. array_parts_of xs;
-    pairs = λ ps r h. absurd (omega arith);
-    tag = λ n x r h. absurd (omega arith);
-    simple = λ n h. absurd (omega arith);
-  })
+  uint = λ n h. absurd (omega arith);
+  nint = λ n h. absurd (omega arith);
+  bytes = λ bs h. absurd (omega arith);
+  text = λ bs h. absurd (omega arith);
+  array = λ xs r h. array_parts_of xs;
+  pairs = λ ps r h. absurd (omega arith);
+  tag = λ n x r h. absurd (omega arith);
+  simple = λ n h. absurd (omega arith);
+})
 
 record MapParts (i : Item) : Type 0 where
   text : body_of i ≡ joined (map pair_bytes (pairs_in i))
@@ -218,23 +215,23 @@ record MapParts (i : Item) : Type 0 where
 
 map_parts_of : (ps : List Pair) → MapParts (Map ps)
 map_parts_of ps = record {
-    text = body_of-Map ps ∙ ap (λ (qs : List Pair). joined (map pair_bytes qs)) (sym (pairs_in-Map ps));
-    count = ap length (pairs_in-Map ps) ∙ sym (ap (λ (h : Head). h.arg) (head_of-Map ps));
-    valid = λ v. subst (AllByRecursion (IsValidPair Bytewise)) (sym (pairs_in-Map ps)) (valid_Map Bytewise ps v).1;
-  }
+  text = body_of-Map ps ∙ ap (λ (qs : List Pair). joined (map pair_bytes qs)) (sym (pairs_in-Map ps));
+  count = ap length (pairs_in-Map ps) ∙ sym (ap (λ (h : Head). h.arg) (head_of-Map ps));
+  valid = λ v. subst (AllByRecursion (IsValidPair Bytewise)) (sym (pairs_in-Map ps)) (valid_Map Bytewise ps v).1;
+}
 
 map_parts : (i : Item) → (head_of i).major ≡ 5 → MapParts i
 unfolding head_of
 map_parts = item_ind (λ i. (head_of i).major ≡ 5 → MapParts i) (record {
-    uint = λ n h. absurd (omega arith);
-    nint = λ n h. absurd (omega arith);
-    bytes = λ bs h. absurd (omega arith);
-    text = λ bs h. absurd (omega arith);
-    array = λ xs r h. absurd (omega arith);
-    pairs = λ ps r h. map_parts_of ps;
-    tag = λ n x r h. absurd (omega arith);
-    simple = λ n h. absurd (omega arith);
-  })
+  uint = λ n h. absurd (omega arith);
+  nint = λ n h. absurd (omega arith);
+  bytes = λ bs h. absurd (omega arith);
+  text = λ bs h. absurd (omega arith);
+  array = λ xs r h. absurd (omega arith);
+  pairs = λ ps r h. map_parts_of ps;
+  tag = λ n x r h. absurd (omega arith);
+  simple = λ n h. absurd (omega arith);
+})
 
 record TagPart (i : Item) : Type 0 where
   item : Item
@@ -245,15 +242,15 @@ record TagPart (i : Item) : Type 0 where
 tag_part : (i : Item) → (head_of i).major ≡ 6 → TagPart i
 unfolding head_of
 tag_part = item_ind (λ i. (head_of i).major ≡ 6 → TagPart i) (record {
-    uint = λ n h. absurd (omega arith);
-    nint = λ n h. absurd (omega arith);
-    bytes = λ bs h. absurd (omega arith);
-    text = λ bs h. absurd (omega arith);
-    array = λ xs r h. absurd (omega arith);
-    pairs = λ ps r h. absurd (omega arith);
-    tag = λ n x r h. record { item = x; is = enclosed_in-Tag n x; text = body_of-Tag n x; valid = λ v. (valid_Tag Bytewise n x v).1 };
-    simple = λ n h. absurd (omega arith);
-  })
+  uint = λ n h. absurd (omega arith);
+  nint = λ n h. absurd (omega arith);
+  bytes = λ bs h. absurd (omega arith);
+  text = λ bs h. absurd (omega arith);
+  array = λ xs r h. absurd (omega arith);
+  pairs = λ ps r h. absurd (omega arith);
+  tag = λ n x r h. record { item = x; is = enclosed_in-Tag n x; text = body_of-Tag n x; valid = λ v. (valid_Tag Bytewise n x v).1 };
+  simple = λ n h. absurd (omega arith);
+})
 
 -- ---- the arms
 
@@ -357,9 +354,9 @@ module _ {A : Type 0} where
       let p : joined (map text xs) ≡ joined (map text (take i xs)) ++ (text x ++ joined (map text (drop (suc i) xs))) = joined-split text xs i x lt ∙ ap (λ z. joined (map text (take i xs)) ++ (text z ++ joined (map text (drop (suc i) xs)))) (sym xe) in
       let q : joined (map text ys) ≡ joined (map text (take i ys)) ++ (text y ++ joined (map text (drop (suc i) ys))) = joined-split text ys i y (omega arith) ∙ ap (λ z. joined (map text (take i ys)) ++ (text z ++ joined (map text (drop (suc i) ys)))) (sym ye) in
       sym (ap (λ (t : List ℕ). cmp t (joined (map text ys))) p ∙ (ap (cmp (joined (map text (take i xs)) ++ (text x ++ joined (map text (drop (suc i) xs))))) q
-        ∙ (cmp_behind (joined (map text (take i xs))) (joined (map text (take i ys))) (text x ++ joined (map text (drop (suc i) xs))) (text y ++ joined (map text (drop (suc i) ys))) front
-        ∙ (cmp_split (text x) (text y) (joined (map text (drop (suc i) xs))) (joined (map text (drop (suc i) ys))) apart
-        ∙ (ap (λ (r : Ordering). ordering_then r (cmp (joined (map text (drop (suc i) xs))) (joined (map text (drop (suc i) ys))))) oe ∙ differ o (cmp (joined (map text (drop (suc i) xs))) (joined (map text (drop (suc i) ys)))) ne)))))
+      ∙ (cmp_behind (joined (map text (take i xs))) (joined (map text (take i ys))) (text x ++ joined (map text (drop (suc i) xs))) (text y ++ joined (map text (drop (suc i) ys))) front
+      ∙ (cmp_split (text x) (text y) (joined (map text (drop (suc i) xs))) (joined (map text (drop (suc i) ys))) apart
+      ∙ (ap (λ (r : Ordering). ordering_then r (cmp (joined (map text (drop (suc i) xs))) (joined (map text (drop (suc i) ys))))) oe ∙ differ o (cmp (joined (map text (drop (suc i) xs))) (joined (map text (drop (suc i) ys)))) ne)))))
 
   pub same_at : (text : A → List ℕ) (xs ys : List A) (i : ℕ) (x y : A) → i < length xs → length xs ≡ length ys → x ≡ get_or xs i x → y ≡ get_or ys i y
       → joined (map text (take i xs)) ≡ joined (map text (take i ys)) → cmp (text x) (text y) ≡ Equal → joined (map text (take (i + 1) xs)) ≡ joined (map text (take (i + 1) ys))
@@ -387,7 +384,7 @@ pairs_apart p q vp vq u w e =
 pub keys_decide : (p q : Pair) (o : Ordering) → IsValidPair Bytewise p → IsValidPair Bytewise q → o ≡ cmp (encoding p.key) (encoding q.key) → is_ne o ≡ true → cmp (pair_bytes p) (pair_bytes q) ≡ o
 keys_decide p q o vp vq e ne =
     cmp_split (encoding p.key) (encoding q.key) (encoding p.value) (encoding q.value) (items_apart Bytewise p.key q.key vp.0 vq.0)
-        ∙ (ap (λ (r : Ordering). ordering_then r (cmp (encoding p.value) (encoding q.value))) (sym e) ∙ differ o (cmp (encoding p.value) (encoding q.value)) ne)
+    ∙ (ap (λ (r : Ordering). ordering_then r (cmp (encoding p.value) (encoding q.value))) (sym e) ∙ differ o (cmp (encoding p.value) (encoding q.value)) ne)
 
 pub values_decide : (p q : Pair) (o r : Ordering) → o ≡ cmp (encoding p.key) (encoding q.key) → is_ne o ≡ false → r ≡ cmp (encoding p.value) (encoding q.value) → cmp (pair_bytes p) (pair_bytes q) ≡ r
 values_decide p q o r e ne re =

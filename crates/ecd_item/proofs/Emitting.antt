@@ -1,14 +1,13 @@
 -- Writing one text behind another.
-use Rattle.std.proofs.Common.{◌≡◌, ℕ, zero, suc, ◌+◌, ◌-◌, ◌<◌, ◌≤◌, ◌^◌, List, [], ◌∷◌, ◌++◌, length, take, drop, map, get_or, refl, ap, sym, inl, inr, ◌⊎◌, ◌∙◌, subst, arith, rules, append_assoc}
+use Rattle.std.proofs.Common.{◌≡◌, ℕ, zero, suc, ◌+◌, ◌<◌, ◌≤◌, List, [], ◌∷◌, ◌++◌, length, take, drop, map, get_or, ap, sym, inl, inr, ◌∙◌, subst, arith, append_assoc}
 use Rattle.std.specs.List.{AllByRecursion}
-use Rattle.std.proofs.lemmas.List.{length-append, length-map, append-nil, take_at, drop_at, length-take, length-drop, drop-drop, take_all}
-use Rattle.ecd_head.specs.Head.{head_bytes, IsWritable}
-use Rattle.ecd_head.specs.Place.{WritesAt}
+use Rattle.std.proofs.lemmas.List.{length-append, take_at, drop_at, length-take, length-drop, drop-drop, take_all}
+use Rattle.ecd_head.specs.Head.{IsWritable}
 use Rattle.ecd_item.specs.declared.item.Item.{Item}
 use Rattle.ecd_item.specs.declared.item.Item.TheVariants.{Array, Map, Simple}
 use Rattle.ecd_item.specs.declared.item.Pair.{Pair}
 use Rattle.ecd_keyorder.specs.declared.Order.{Order}
-use Rattle.ecd_item.specs.Encoding.{encoding, joined}
+use Rattle.ecd_item.specs.Encoding.{joined}
 use Rattle.ecd_item.specs.Valid.{IsValid}
 use Rattle.ecd_item.specs.Writing.{Emits}
 use Rattle.ecd_item.proofs.Layers.{valid_Array, valid_Map}
@@ -23,7 +22,7 @@ Emits-then old at a mid k b new end p q =
     let t : take k mid ≡ take at old ++ a = rw p.written.made (take_at (take at old ++ a) (drop (at + length a) old) k len) in
     let d : drop k mid ≡ drop (at + length a) old = rw p.written.made (drop_at (take at old ++ a) (drop (at + length a) old) k len) in
     let e : drop (k + length b) mid ≡ drop (at + length (a ++ b)) old =
-        sym (drop-drop (length b) k mid) ∙ (ap (drop (length b)) d ∙ (drop-drop (length b) (at + length a) old ∙ ap (λ (n : ℕ). drop n old) (omega (arith, length-append a b)))) in
+    sym (drop-drop (length b) k mid) ∙ (ap (drop (length b)) d ∙ (drop-drop (length b) (at + length a) old ∙ ap (λ (n : ℕ). drop n old) (omega (arith, length-append a b)))) in
     record {
       written = record {
         fits = omega (arith, length-append a b, q.written.fits, ap length p.written.made, length-append (take at old ++ a) (drop (at + length a) old), length-drop (at + length a) old, p.written.fits);
@@ -66,7 +65,7 @@ pub piece_next : {A : Type 0} (text : A → List ℕ) (xs : List A) (i : ℕ) (x
     → Emits old at (front ++ joined (map text (take i xs))) mid here → Emits mid here (text x) new end → Emits old at (front ++ joined (map text (take (i + 1) xs))) new end
 piece_next text xs i x front old mid new at here end lt is p q =
     let e : (front ++ joined (map text (take i xs))) ++ text x ≡ front ++ joined (map text (take (i + 1) xs)) =
-        append_assoc front (joined (map text (take i xs))) (text x) ∙ ap (λ (t : List ℕ). front ++ t) (ap (λ y. joined (map text (take i xs)) ++ text y) is ∙ sym (joined-more text xs i x lt)) in
+    append_assoc front (joined (map text (take i xs))) (text x) ∙ ap (λ (t : List ℕ). front ++ t) (ap (λ y. joined (map text (take i xs)) ++ text y) is ∙ sym (joined-more text xs i x lt)) in
     subst (λ (t : List ℕ). Emits old at t new end) e (Emits-then old at (front ++ joined (map text (take i xs))) mid here (text x) new end p q)
 
 pub piece_done : {A : Type 0} (text : A → List ℕ) (xs : List A) (i : ℕ) (front whole old mid : List ℕ) (at here : ℕ) → length xs ≤ i → whole ≡ front ++ joined (map text xs)

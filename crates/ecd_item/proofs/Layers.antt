@@ -8,11 +8,10 @@ use Rattle.ecd_head.specs.Head.{head_bytes}
 use Rattle.ecd_keyorder.specs.declared.Order.{Order}
 use mathlib.Core.Former.{Count}
 use denote.Hole.Carrier.{hidden, shown}
-use Rattle.ecd_item.specs.declared.item.Item.{Item, Row_of-Item, end_of-Item, more_of-Item, Array', Map', Tag', Row_of-Pair, end_of-Pair, more_of-Pair, items-the_row-Item, items-the_row-Pair, out-Item, roll-Item, roll-out-Item, the_lemmas}
+use Rattle.ecd_item.specs.declared.item.Item.{Item, Row_of-Item, end_of-Item, more_of-Item, Array', Map', Tag', Row_of-Pair, end_of-Pair, more_of-Pair, items-the_row-Item, items-the_row-Pair, roll-Item, roll-out-Item, the_lemmas}
 use Rattle.ecd_item.specs.declared.item.Item.TheViews.{outs-Array', outs-Map', outs-Tag'}
-use Rattle.ecd_item.specs.declared.item.Item.TheOpen.{Item-F}
-use Rattle.ecd_item.specs.declared.item.Item.TheBlock.{shown-the_row-Item-0, shown-the_row-Item-2, shown-the_row-Pair-1, hidden-the_row-Item-0, hidden-the_row-Pair-1, hidden-the_row-Item-2, items_hidden-the_row-Item-0, items_hidden-the_row-Item-2, items_hidden-the_row-Pair-1}
-use Rattle.ecd_item.specs.declared.item.Item.TheVariants.{Uint, Nint, Bytes, Text, Array, Map, Tag, Simple, rolls-Array, rolls-Map, rolls-Tag, outs-Array, outs-Map, outs-Tag}
+use Rattle.ecd_item.specs.declared.item.Item.TheBlock.{shown-the_row-Item-0, shown-the_row-Item-2, shown-the_row-Pair-1, hidden-the_row-Item-0, hidden-the_row-Pair-1, hidden-the_row-Item-2, items_hidden-the_row-Item-0, items_hidden-the_row-Pair-1}
+use Rattle.ecd_item.specs.declared.item.Item.TheVariants.{Uint, Nint, Bytes, Text, Array, Map, Tag, Simple, rolls-Array, rolls-Map, rolls-Tag}
 use Rattle.ecd_item.specs.declared.item.Pair.{Pair}
 use Rattle.ecd_item.specs.Encoding.{encoding, encodings, pair_encodings, key_bytes, pair_bytes, joined, both}
 use Rattle.ecd_item.specs.Valid.{key_of, IsValid, IsValidPair, AreValid, ArePairsValid, depth, depths, pair_depths, Ascend}
@@ -89,8 +88,8 @@ pub encoding-Map : (ps : List Pair) → encoding (Map ps) ≡ head_bytes 5 (leng
 unfolding encoding
 encoding-Map ps =
     ap (λ (es : List (List ℕ × List ℕ)). head_bytes 5 (length es) ++ joined (map both es)) (pairs-list ps)
-        ∙ (ap (λ (n : ℕ). head_bytes 5 n ++ joined (map both (map pair_encoding ps))) (length-map ps pair_encoding)
-            ∙ ap (λ (t : List (List ℕ)). head_bytes 5 (length ps) ++ joined t) (pair_texts ps))
+    ∙ (ap (λ (n : ℕ). head_bytes 5 n ++ joined (map both (map pair_encoding ps))) (length-map ps pair_encoding)
+    ∙ ap (λ (t : List (List ℕ)). head_bytes 5 (length ps) ++ joined t) (pair_texts ps))
 
 pub encoding-Tag : (n : ℕ) (x : Item) → encoding (Tag n x) ≡ head_bytes 6 n ++ encoding x
 unfolding encoding encodings hidden-the_row-Item-2 hidden
@@ -227,9 +226,24 @@ module _ (order : Order) where
   unfolding IsValid AreValid hidden-the_row-Item-2 hidden
   Tag_valid n x lt h = (lt, (h, tt))
 
-pub ruleset layers =
-  (encoding-Uint, encoding-Nint, encoding-Bytes, encoding-Text, encoding-Simple, encoding-Array, encoding-Map, encoding-Tag,
-    depth-Uint, depth-Nint, depth-Bytes, depth-Text, depth-Simple, depth-Array, depth-Map, depth-Tag)
+pub ruleset layers = (
+  encoding-Uint,
+  encoding-Nint,
+  encoding-Bytes,
+  encoding-Text,
+  encoding-Simple,
+  encoding-Array,
+  encoding-Map,
+  encoding-Tag,
+  depth-Uint,
+  depth-Nint,
+  depth-Bytes,
+  depth-Text,
+  depth-Simple,
+  depth-Array,
+  depth-Map,
+  depth-Tag,
+)
 
 -- ---- induction over lists
 

@@ -1,11 +1,11 @@
 -- Lengths, and writing one value after the other.
-use Rattle.std.proofs.Common.{◌≡◌, ℕ, zero, suc, ◌+◌, ◌-◌, ◌<◌, ◌≤◌, ◌^◌, List, [], ◌∷◌, ◌++◌, length, take, drop, map, get_or, refl, ap, sym, ◌∙◌, subst, arith, rules, append_assoc}
+use Rattle.std.proofs.Common.{◌≡◌, ℕ, ◌+◌, ◌<◌, ◌≤◌, List, [], ◌∷◌, ◌++◌, length, take, map, get_or, ap, sym, ◌∙◌, arith, append_assoc}
 use Rattle.std.specs.Prelude.{min}
 use Rattle.std.proofs.lemmas.Bool.Decides.{nat_tests}
-use Rattle.std.proofs.lemmas.List.{length-append, length-map, append-nil, take_more, map_push}
+use Rattle.std.proofs.lemmas.List.{length-append, append-nil, take_more, map_push}
 use Rattle.ecd_head.specs.Head.{head_bytes}
 use Rattle.ecd_item.specs.declared.item.Item.{Item}
-use Rattle.ecd_item.specs.declared.item.Item.TheVariants.{Uint, Nint, Bytes, Text, Array, Map, Tag, Simple}
+use Rattle.ecd_item.specs.declared.item.Item.TheVariants.{Bytes, Text, Array, Map, Tag}
 use Rattle.ecd_item.specs.declared.item.Pair.{Pair}
 use Rattle.ecd_item.specs.Encoding.{encoding, joined}
 use Rattle.ecd_item.proofs.Layers.{encoding-Bytes, encoding-Text, encoding-Array, encoding-Map, encoding-Tag}

@@ -1,30 +1,29 @@
 -- A first fault is the one that reading names.
-use Rattle.std.proofs.Common.{◌≡◌, ℕ, zero, suc, ◌+◌, ◌-◌, ◌<◌, ◌≤◌, ◌^◌, ◌⊎◌, Bool, true, false, cond, List, [], ◌∷◌, ◌++◌, length, take, drop, map, Option, Some, None, Result, Ok, Err, refl, ap, sym, ◌∙◌, subst, arith, rules, append_assoc, inl, inr}
+use Rattle.std.proofs.Common.{◌≡◌, ℕ, zero, suc, ◌+◌, ◌-◌, ◌<◌, ◌^◌, ◌⊎◌, Bool, true, false, List, [], ◌∷◌, ◌++◌, length, take, map, Option, Some, None, Result, Ok, Err, refl, ap, sym, ◌∙◌, subst, arith, append_assoc, inl, inr}
 use Rattle.std.specs.List.{AllByRecursion}
 use Rattle.std.specs.Str.{IsUtf8, is_utf8}
 use Rattle.std.proofs.lemmas.Str.{IsUtf8-from_is_utf8}
-use Rattle.std.proofs.lemmas.List.{length-append, append-nil, take_at, drop_at}
-use Rattle.std.proofs.lemmas.Bool.{le-ltb, lt-ltb}
+use Rattle.std.proofs.lemmas.List.{length-append, append-nil, take_at}
+use Rattle.std.proofs.lemmas.Bool.{lt-ltb}
 use Rattle.ecd_head.specs.declared.HeadFault.{HeadFault}
 use Rattle.ecd_head.specs.declared.HeadFault.TheVariants as h
 use Rattle.ecd_head.specs.Head.{IsWritable, head_bytes}
-use Rattle.ecd_head.specs.Fault.{head_at, head_fault}
+use Rattle.ecd_head.specs.Fault.{head_fault}
 use Rattle.ecd_head.proofs.Heads.{fault_read}
 use Rattle.ecd_keyorder.specs.declared.Order.{Order}
-use Rattle.ecd_keyorder.specs.Order.{comparison, IsBefore}
+use Rattle.ecd_keyorder.specs.Order.{comparison}
 use Rattle.std.specs.declared.cmp.Ordering.{Ordering}
 use Rattle.std.specs.declared.cmp.Ordering.TheVariants.{Less, Equal, Greater}
 use Rattle.ecd_item.specs.declared.fault.Fault.{Fault}
 use Rattle.ecd_item.specs.declared.fault.Cause.{Cause}
 use Rattle.ecd_item.specs.declared.fault.Cause.TheVariants as c
 use Rattle.ecd_item.specs.declared.item.Item.{Item}
-use Rattle.ecd_item.specs.declared.item.Item.TheVariants.{Array, Map, Tag}
 use Rattle.ecd_item.specs.declared.item.Pair.{Pair}
 use Rattle.ecd_item.specs.Encoding.{encoding, key_bytes, pair_bytes, joined}
-use Rattle.ecd_item.specs.Valid.{IsValid, IsWhole, IsWholePair, Ascend, depth}
-use Rattle.ecd_item.specs.Reading.{Reader, Taken, ◌>>=◌, taken, refused, layer, behind, parts, item_at, inner_of, many, pairs, pair_of, string_at, text_at, made, is_above, is_less, cause_of}
-use Rattle.ecd_item.specs.FirstFault.{Step, InTag, InArray, AtKey, AtValue, step_bytes, IsOpen, AreOpen, steps_bytes, last_of, key_before_in, key_before, IsCutString, IsBadText, IsTooDeep, IsOutOfOrder, HasCause, IsFirstFault}
-use Rattle.ecd_item.proofs.Again.{ok_is, fine, item_at-layer, layer_again, item_again, atom, string_again, follows, follows-Ascend, none_above}
+use Rattle.ecd_item.specs.Valid.{IsWhole, IsWholePair, Ascend}
+use Rattle.ecd_item.specs.Reading.{Reader, Taken, ◌>>=◌, taken, refused, layer, behind, parts, item_at, inner_of, many, pairs, is_above, is_less, cause_of}
+use Rattle.ecd_item.specs.FirstFault.{Step, InTag, InArray, AtKey, AtValue, step_bytes, IsOpen, AreOpen, steps_bytes, last_of, key_before_in, key_before, IsOutOfOrder, HasCause, IsFirstFault}
+use Rattle.ecd_item.proofs.Again.{item_at-layer, layer_again, item_again, atom, string_again, follows, follows-Ascend, none_above}
 use Rattle.ecd_item.proofs.Loops.{with_front}
 
 abbrev pub failed : {A : Type 0} → Fault → Result A Fault
@@ -61,7 +60,7 @@ many_front {A} read text (x ∷ xs) h n k at rest e =
     let p : k ≡ suc (length xs + n) = omega arith in
     let len : at + length (text x) + length (joined (map text xs)) ≡ at + length (text x ++ joined (map text xs)) = omega (arith, length-append (text x) (joined (map text xs))) in
     rw (p, append_assoc (text x) (joined (map text xs)) rest, h.0 at (joined (map text xs) ++ rest), many_front read text xs h.1 n (length xs + n) (at + length (text x)) rest refl, len)
-      (front_one x xs (many read n (at + length (text x ++ joined (map text xs))) rest))
+    (front_one x xs (many read n (at + length (text x ++ joined (map text xs))) rest))
 
 bool_false : (b : Bool) → (b ≡ true → ⊥) → b ≡ false
 bool_false true h = absurd (h refl)
@@ -104,7 +103,7 @@ module _ (order : Order) where
       let front : take (at + length (encoding p.key) - at) (encoding p.key ++ (encoding p.value ++ (more ++ rest))) ≡ encoding p.key = take_at (encoding p.key) (encoding p.value ++ (more ++ rest)) (at + length (encoding p.key) - at) (omega arith) in
       let len : at + length (encoding p.key) + length (encoding p.value) + length more ≡ at + length ((encoding p.key ++ encoding p.value) ++ more) = omega (arith, length-append (encoding p.key ++ encoding p.value) more, length-append (encoding p.key) (encoding p.value)) in
       rw (kn, whole, h.0.0 at (encoding p.value ++ (more ++ rest)), front, fo.0, h.0.1 (at + length (encoding p.key)) (more ++ rest), pairs_front read ps h.1 (Some (encoding p.key)) fo.1 n (length ps + n) (at + length (encoding p.key) + length (encoding p.value)) rest refl, len)
-        (front_one p ps (pairs order read (last_after (Some (encoding p.key)) ps) n (at + length ((encoding p.key ++ encoding p.value) ++ more)) rest))
+      (front_one p ps (pairs order read (last_after (Some (encoding p.key)) ps) n (at + length ((encoding p.key ++ encoding p.value) ++ more)) rest))
 
   whole_again : (d : ℕ) (xs : List Item) → AllByRecursion (IsWhole order d) xs → AllByRecursion (Rereads (item_at order d) encoding) xs
   whole_again d [] h = tt
@@ -188,8 +187,8 @@ module _ (order : Order) where
       let place : at + length text + length (encoding key) ≡ at + length (head_bytes 5 count ++ (joined (map pair_bytes before) ++ encoding key)) = omega (arith, length-append (head_bytes 5 count) (joined (map pair_bytes before)), length-append (head_bytes 5 count) (joined (map pair_bytes before) ++ encoding key), length-append (joined (map pair_bytes before)) (encoding key)) in
       let whole : (head_bytes 5 count ++ (joined (map pair_bytes before) ++ encoding key)) ++ inner ≡ text ++ (encoding key ++ inner) = simp append_assoc in
       ap (item_at order (suc d) at) whole
-        ∙ map_goes_on d count m at before (encoding key ++ inner) f o.0 len o.2 above.1
-            (value_fails (item_at order d) (last_of (map key_bytes before)) m (at + length text) (encoding key) inner key f (item_again order key d (at + length text) inner o.3.1 o.3.0) above.0 (rw place e))
+      ∙ map_goes_on d count m at before (encoding key ++ inner) f o.0 len o.2 above.1
+      (value_fails (item_at order d) (last_of (map key_bytes before)) m (at + length text) (encoding key) inner key f (item_again order key d (at + length text) inner o.3.1 o.3.0) above.0 (rw place e))
 
   -- ---- the cause
 
@@ -271,9 +270,9 @@ module _ (order : Order) where
       let v : HasCause order d (key_before_in step) rest cause = subst (λ (n : ℕ). HasCause order n (key_before_in step) rest cause) room w in
       let whole : step_bytes step ++ [] ≡ step_bytes step = append-nil (step_bytes step) in
       rw whole (elim (cause_kind cause) [
-          | inl e ↦ subst (λ (k : Cause). item_at order (suc d) at (step_bytes step ++ rest) ≡ refused (at + length (step_bytes step)) k) (sym e) (misplaced d step at rest o.0 (subst (HasCause order d (key_before_in step) rest) e v))
-          | inr g ↦ step_fails d step at rest (record { place = at + length (step_bytes step); cause = cause }) o.0 (cause_fails d (at + length (step_bytes step)) rest cause (g d (key_before_in step) rest v))
-        ])
+        | inl e ↦ subst (λ (k : Cause). item_at order (suc d) at (step_bytes step ++ rest) ≡ refused (at + length (step_bytes step)) k) (sym e) (misplaced d step at rest o.0 (subst (HasCause order d (key_before_in step) rest) e v))
+        | inr g ↦ step_fails d step at rest (record { place = at + length (step_bytes step); cause = cause }) o.0 (cause_fails d (at + length (step_bytes step)) rest cause (g d (key_before_in step) rest v))
+      ])
   named (step ∷ next ∷ steps) zero at rest cause o w = absurd o
   named (step ∷ next ∷ steps) (suc d) at rest cause o w =
       let more = steps_bytes (next ∷ steps) in

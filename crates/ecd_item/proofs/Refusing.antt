@@ -1,7 +1,7 @@
 -- Where reading stops, a first fault stands.
-use Rattle.std.proofs.Common.{◌≡◌, ℕ, zero, suc, ◌+◌, ◌-◌, ◌<◌, ◌≤◌, ◌^◌, ◌⊎◌, Bool, true, false, cond, eqb, ltb, List, [], ◌∷◌, ◌++◌, length, take, drop, map, Option, Some, None, Result, Ok, Err, refl, ap, sym, ◌∙◌, subst, arith, rules, append_assoc, inl, inr}
+use Rattle.std.proofs.Common.{◌≡◌, ℕ, zero, suc, ◌+◌, ◌-◌, ◌<◌, ◌≤◌, ◌^◌, ◌⊎◌, Bool, true, false, cond, eqb, ltb, List, [], ◌∷◌, ◌++◌, length, take, drop, map, Option, Some, None, Result, Ok, Err, refl, ap, sym, ◌∙◌, subst, arith, append_assoc, inl, inr}
 use Rattle.std.specs.List.{AllByRecursion}
-use Rattle.std.specs.Str.{IsUtf8, is_utf8}
+use Rattle.std.specs.Str.{is_utf8}
 use Rattle.std.proofs.lemmas.Str.{is_utf8-from_IsUtf8}
 use Rattle.std.proofs.lemmas.List.{length-append, length-take, take-append-drop, append-nil, map_push}
 use Rattle.std.proofs.lemmas.Bool.{ltb-true, ltb-false, eqb-true, eqb-false}
@@ -22,11 +22,11 @@ use Rattle.ecd_item.specs.declared.item.Item.{Item}
 use Rattle.ecd_item.specs.declared.item.Item.TheVariants.{Uint, Nint, Bytes, Text, Array, Map, Tag, Simple}
 use Rattle.ecd_item.specs.declared.item.Pair.{Pair}
 use Rattle.ecd_item.specs.Encoding.{encoding, key_bytes, pair_bytes, joined}
-use Rattle.ecd_item.specs.Valid.{IsValid, IsWhole, IsWholePair, Ascend, depth}
-use Rattle.ecd_item.specs.Reading.{Reader, Taken, ◌>>=◌, taken, refused, headed, layer, behind, parts, item_at, inner_of, many, pairs, pair_of, string_at, text_at, made, is_above, is_less, cause_of}
-use Rattle.ecd_item.specs.FirstFault.{Step, InTag, InArray, AtKey, AtValue, step_bytes, IsOpen, AreOpen, steps_bytes, last_of, key_before_in, key_before, IsCutString, IsBadText, IsTooDeep, IsOutOfOrder, HasCause, IsFirstFault}
+use Rattle.ecd_item.specs.Valid.{IsWhole, IsWholePair, Ascend}
+use Rattle.ecd_item.specs.Reading.{Taken, ◌>>=◌, taken, refused, headed, layer, behind, parts, item_at, inner_of, many, pairs, pair_of, string_at, text_at, made, is_above, is_less, cause_of}
+use Rattle.ecd_item.specs.FirstFault.{Step, InTag, InArray, AtKey, AtValue, step_bytes, IsOpen, steps_bytes, last_of, key_before_in, key_before, HasCause, IsFirstFault}
 use Rattle.ecd_item.proofs.Again.{ok_is, fine, item_at-layer}
-use Rattle.ecd_item.proofs.Takes.{Took, item_takes, key_is}
+use Rattle.ecd_item.proofs.Takes.{item_takes, key_is}
 use Rattle.ecd_item.proofs.Lengths.{joined-last}
 
 abbrev pub failed : {A : Type 0} → Fault → Result A Fault
@@ -111,6 +111,7 @@ string_ok place n at bytes s e =
     chosen_ok : {A : Type 0} (b : Bool) (r s : Result A Fault) (y : A) → cond b r s ≡ Ok y → ((b ≡ true) × (r ≡ Ok y)) ⊎ ((b ≡ false) × (s ≡ Ok y))
     chosen_ok true r s y e = inl (refl, e)
     chosen_ok false r s y e = inr (refl, e)
+
     refused_ok : {A B : Type 0} (at : ℕ) (cause : Cause) (y : A) → refused {A = A} at cause ≡ Ok y → B
     refused_ok at cause y e = absurd cc
 
@@ -144,7 +145,7 @@ module _ (order : Order) where
   stops_here : (d at : ℕ) (bytes : List ℕ) (f : Fault) (cause : Cause) → f ≡ record { place = at; cause = cause } → HasCause order d None bytes cause → Stops d at bytes f
   stops_here d at bytes f cause e w =
       subst (λ (g : Fault). Stops d at bytes g) (sym e)
-        (record { steps = []; rest = bytes; unfinished = tt; stands = refl; here = omega arith; why = subst (λ (n : ℕ). HasCause order n None bytes cause) (omega arith) w })
+      (record { steps = []; rest = bytes; unfinished = tt; stands = refl; here = omega arith; why = subst (λ (n : ℕ). HasCause order n None bytes cause) (omega arith) w })
 
   deeper_cause : (d : ℕ) (step : Step) (steps : List Step) (rest : List ℕ) (cause : Cause) → HasCause order (d - length steps) (key_before steps) rest cause → HasCause order (suc d - length (step ∷ steps)) (key_before (step ∷ steps)) rest cause
   deeper_cause d step [] rest cause w = subst (λ (n : ℕ). HasCause order n (key_before_in step) rest cause) (omega arith) (any_before (d - 0) (key_before_in step) rest cause w)
@@ -174,12 +175,12 @@ module _ (order : Order) where
       elim (bind_err (item_at order d inner bytes) (λ first. many (item_at order d) n first.at first.rest >>= λ others. taken (first.value ∷ others.value) others.at others.rest) f e) [
         | inl g ↦ deeper d (InArray count before) at inner bytes f (small, omega arith, all) place (ih inner bytes f fits g)
         | inr w ↦
-          let x = w.0 in
-          let t = item_takes order d inner bytes w.0 fits w.1 in
-          let again : many (item_at order d) n w.0.at w.0.rest ≡ Err f = elim (bind_err (many (item_at order d) n w.0.at w.0.rest) (λ others. taken (w.0.value ∷ others.value) others.at others.rest) f w.2) [ inl a ↦ a | inr v ↦ taken_err (record { value = w.0.value ∷ v.0.value; at = v.0.at; rest = v.0.rest }) f (sym v.2) ] in
-          subst (λ (b : List ℕ). Stops (suc d) at b f) (sym (pushed_bytes encoding (head_bytes 4 count) before w.0.value bytes w.0.rest t.whole))
+            let x = w.0 in
+            let t = item_takes order d inner bytes w.0 fits w.1 in
+            let again : many (item_at order d) n w.0.at w.0.rest ≡ Err f = elim (bind_err (many (item_at order d) n w.0.at w.0.rest) (λ others. taken (w.0.value ∷ others.value) others.at others.rest) f w.2) [ inl a ↦ a | inr v ↦ taken_err (record { value = w.0.value ∷ v.0.value; at = v.0.at; rest = v.0.rest }) f (sym v.2) ] in
+            subst (λ (b : List ℕ). Stops (suc d) at b f) (sym (pushed_bytes encoding (head_bytes 4 count) before w.0.value bytes w.0.rest t.whole))
             (array_more d count n at w.0.at (before ++ w.0.value ∷ []) w.0.rest f ih t.rest_fits (omega (arith, length-append before (w.0.value ∷ []))) small (all_push (IsWhole order d) before w.0.value all t.holds)
-              (omega (arith, t.place, place, pushed_long encoding (head_bytes 4 count) before w.0.value)) again)
+            (omega (arith, t.place, place, pushed_long encoding (head_bytes 4 count) before w.0.value)) again)
       ]
 
   -- ---- maps
@@ -199,14 +200,14 @@ module _ (order : Order) where
       let b = not_above (last_of (map key_bytes before)) (encoding key) below in
       let text = step_bytes (AtKey count before) in
       subst (λ (g : Fault). Stops (suc d) at (text ++ bytes) g) (sym e)
-        (record {
-            steps = AtKey count before ∷ [];
-            rest = bytes;
-            unfinished = (o, tt);
-            stands = ap (λ (t : List ℕ). t ++ bytes) (sym (append-nil text));
-            here = place ∙ ap (λ (t : List ℕ). at + length t) (sym (append-nil text));
-            why = record { last = b.0; key = key; rest = rest; follows = b.1; whole = (whole.0, omega (arith, whole.1)); stands = stands; below = b.2 };
-          })
+      (record {
+        steps = AtKey count before ∷ [];
+        rest = bytes;
+        unfinished = (o, tt);
+        stands = ap (λ (t : List ℕ). t ++ bytes) (sym (append-nil text));
+        here = place ∙ ap (λ (t : List ℕ). at + length t) (sym (append-nil text));
+        why = record { last = b.0; key = key; rest = rest; follows = b.1; whole = (whole.0, omega (arith, whole.1)); stands = stands; below = b.2 };
+      })
 
   keys_pushed : (before : List Pair) (k v : Item) → map key_bytes (before ++ pair_of k v ∷ []) ≡ map key_bytes before ++ encoding k ∷ []
   keys_pushed before k v = map_push key_bytes before (pair_of k v)
@@ -219,32 +220,32 @@ module _ (order : Order) where
       elim (bind_err (item_at order d inner bytes) (λ key. cond (is_above order last (take (key.at - inner) bytes)) (item_at order d key.at key.rest) (refused inner c.KeyOrder) >>= λ value. pairs order (item_at order d) (Some (take (key.at - inner) bytes)) n value.at value.rest >>= λ others. taken (pair_of key.value value.value ∷ others.value) others.at others.rest) f e) [
         | inl g ↦ deeper d (AtKey count before) at inner bytes f (small, omega arith, all, ascends) place (ih inner bytes f fits g)
         | inr w ↦
-          let k = item_takes order d inner bytes w.0 fits w.1 in
-          let kb : take (w.0.at - inner) bytes ≡ encoding w.0.value = key_is order inner bytes w.0 k.whole k.place in
-          let here : last_of (map key_bytes before) ≡ last = sym lasts in
-          elim (bind_err (cond (is_above order last (take (w.0.at - inner) bytes)) (item_at order d w.0.at w.0.rest) (refused inner c.KeyOrder)) (λ value. pairs order (item_at order d) (Some (take (w.0.at - inner) bytes)) n value.at value.rest >>= λ others. taken (pair_of w.0.value value.value ∷ others.value) others.at others.rest) f w.2) [
-            | inl g ↦ elim (chosen_err (is_above order last (take (w.0.at - inner) bytes)) (item_at order d w.0.at w.0.rest) (refused inner c.KeyOrder) f g) [
-              | inl a ↦
-                let above : is_above order (last_of (map key_bytes before)) (encoding w.0.value) ≡ true = rw (here, ← kb) a.0 in
-                subst (λ (b : List ℕ). Stops (suc d) at b f) (sym (value_bytes (head_bytes 5 count) (joined (map pair_bytes before)) (encoding w.0.value) bytes w.0.rest k.whole))
-                  (deeper d (AtValue count before w.0.value) at w.0.at w.0.rest f (small, omega arith, all, k.holds, ascend_push (map key_bytes before) (encoding w.0.value) ascends above)
+            let k = item_takes order d inner bytes w.0 fits w.1 in
+            let kb : take (w.0.at - inner) bytes ≡ encoding w.0.value = key_is order inner bytes w.0 k.whole k.place in
+            let here : last_of (map key_bytes before) ≡ last = sym lasts in
+            elim (bind_err (cond (is_above order last (take (w.0.at - inner) bytes)) (item_at order d w.0.at w.0.rest) (refused inner c.KeyOrder)) (λ value. pairs order (item_at order d) (Some (take (w.0.at - inner) bytes)) n value.at value.rest >>= λ others. taken (pair_of w.0.value value.value ∷ others.value) others.at others.rest) f w.2) [
+              | inl g ↦ elim (chosen_err (is_above order last (take (w.0.at - inner) bytes)) (item_at order d w.0.at w.0.rest) (refused inner c.KeyOrder) f g) [
+                | inl a ↦
+                    let above : is_above order (last_of (map key_bytes before)) (encoding w.0.value) ≡ true = rw (here, ← kb) a.0 in
+                    subst (λ (b : List ℕ). Stops (suc d) at b f) (sym (value_bytes (head_bytes 5 count) (joined (map pair_bytes before)) (encoding w.0.value) bytes w.0.rest k.whole))
+                    (deeper d (AtValue count before w.0.value) at w.0.at w.0.rest f (small, omega arith, all, k.holds, ascend_push (map key_bytes before) (encoding w.0.value) ascends above)
                     (omega (arith, k.place, place, value_long (head_bytes 5 count) (joined (map pair_bytes before)) (encoding w.0.value))) (ih w.0.at w.0.rest f k.rest_fits a.1))
-              | inr a ↦
-                let below : is_above order (last_of (map key_bytes before)) (encoding w.0.value) ≡ false = rw (here, ← kb) a.0 in
-                order_stops d count at inner before bytes w.0.rest w.0.value f (small, omega arith, all, ascends) place k.holds k.whole below (refused_is inner c.KeyOrder f a.1)
-            ]
-            | inr v ↦
-              let g = guard_ok (is_above order last (take (w.0.at - inner) bytes)) (record { place = inner; cause = c.KeyOrder }) (item_at order d w.0.at w.0.rest) v.0 v.1 in
-              let above : is_above order (last_of (map key_bytes before)) (encoding w.0.value) ≡ true = rw (here, ← kb) g.0 in
-              let m = item_takes order d w.0.at w.0.rest v.0 k.rest_fits g.1 in
-              let again : pairs order (item_at order d) (Some (take (w.0.at - inner) bytes)) n v.0.at v.0.rest ≡ Err f = elim (bind_err (pairs order (item_at order d) (Some (take (w.0.at - inner) bytes)) n v.0.at v.0.rest) (λ others. taken (pair_of w.0.value v.0.value ∷ others.value) others.at others.rest) f v.2) [ inl a ↦ a | inr u ↦ taken_err (record { value = pair_of w.0.value v.0.value ∷ u.0.value; at = u.0.at; rest = u.0.rest }) f (sym u.2) ] in
-              let both : bytes ≡ pair_bytes (pair_of w.0.value v.0.value) ++ v.0.rest = k.whole ∙ (ap (λ (t : List ℕ). encoding w.0.value ++ t) m.whole ∙ sym (append_assoc (encoding w.0.value) (encoding v.0.value) v.0.rest)) in
-              subst (λ (b : List ℕ). Stops (suc d) at b f) (sym (pushed_bytes pair_bytes (head_bytes 5 count) before (pair_of w.0.value v.0.value) bytes v.0.rest both))
-                (pair_more d count n at v.0.at (before ++ pair_of w.0.value v.0.value ∷ []) (Some (take (w.0.at - inner) bytes)) v.0.rest f ih m.rest_fits (omega (arith, length-append before (pair_of w.0.value v.0.value ∷ []))) small
+                | inr a ↦
+                    let below : is_above order (last_of (map key_bytes before)) (encoding w.0.value) ≡ false = rw (here, ← kb) a.0 in
+                    order_stops d count at inner before bytes w.0.rest w.0.value f (small, omega arith, all, ascends) place k.holds k.whole below (refused_is inner c.KeyOrder f a.1)
+              ]
+              | inr v ↦
+                  let g = guard_ok (is_above order last (take (w.0.at - inner) bytes)) (record { place = inner; cause = c.KeyOrder }) (item_at order d w.0.at w.0.rest) v.0 v.1 in
+                  let above : is_above order (last_of (map key_bytes before)) (encoding w.0.value) ≡ true = rw (here, ← kb) g.0 in
+                  let m = item_takes order d w.0.at w.0.rest v.0 k.rest_fits g.1 in
+                  let again : pairs order (item_at order d) (Some (take (w.0.at - inner) bytes)) n v.0.at v.0.rest ≡ Err f = elim (bind_err (pairs order (item_at order d) (Some (take (w.0.at - inner) bytes)) n v.0.at v.0.rest) (λ others. taken (pair_of w.0.value v.0.value ∷ others.value) others.at others.rest) f v.2) [ inl a ↦ a | inr u ↦ taken_err (record { value = pair_of w.0.value v.0.value ∷ u.0.value; at = u.0.at; rest = u.0.rest }) f (sym u.2) ] in
+                  let both : bytes ≡ pair_bytes (pair_of w.0.value v.0.value) ++ v.0.rest = k.whole ∙ (ap (λ (t : List ℕ). encoding w.0.value ++ t) m.whole ∙ sym (append_assoc (encoding w.0.value) (encoding v.0.value) v.0.rest)) in
+                  subst (λ (b : List ℕ). Stops (suc d) at b f) (sym (pushed_bytes pair_bytes (head_bytes 5 count) before (pair_of w.0.value v.0.value) bytes v.0.rest both))
+                  (pair_more d count n at v.0.at (before ++ pair_of w.0.value v.0.value ∷ []) (Some (take (w.0.at - inner) bytes)) v.0.rest f ih m.rest_fits (omega (arith, length-append before (pair_of w.0.value v.0.value ∷ []))) small
                   (all_push (IsWholePair order d) before (pair_of w.0.value v.0.value) all (k.holds, m.holds)) (subst (Ascend order) (sym (keys_pushed before w.0.value v.0.value)) (ascend_push (map key_bytes before) (encoding w.0.value) ascends above))
                   (ap Some kb ∙ sym (ap last_of (keys_pushed before w.0.value v.0.value) ∙ last_push (map key_bytes before) (encoding w.0.value)))
                   (omega (arith, k.place, m.place, place, pushed_long pair_bytes (head_bytes 5 count) before (pair_of w.0.value v.0.value), length-append (encoding w.0.value) (encoding v.0.value))) again)
-          ]
+            ]
       ]
 
   -- ---- behind a head
@@ -273,6 +274,7 @@ module _ (order : Order) where
     where
       of_kind : {A : Type 0} (m k : ℕ) → m ≡ k → A → (A → Stops (suc d) place (head_bytes k a ++ bytes) f) → Stops (suc d) place (head_bytes m a ++ bytes) f
       of_kind m k h x g = rw h (g x)
+
       start : (k : ℕ) → m ≡ k → at ≡ place + length (head_bytes k a ++ [])
       start k h = here ∙ (ap (λ (n : ℕ). place + length (head_bytes n a)) h ∙ ap (λ (t : List ℕ). place + length t) (sym (append-nil (head_bytes k a))))
 
@@ -289,20 +291,20 @@ module _ (order : Order) where
       elim (bind_err (string_at place n at bytes) (λ s. cond (is_utf8 s.value) (taken s.value s.at s.rest) (refused place c.BadUtf8)) f e) [
         | inl g ↦ string_stops d place 3 n at bytes f small (inr refl) g
         | inr w ↦
-          let s = string_ok place n at bytes w.0 w.1 in
-          let len : length (take n bytes) ≡ n = omega (arith, length-take n bytes, s.0) in
-          elim (chosen_err (is_utf8 w.0.value) (taken w.0.value w.0.at w.0.rest) (refused place c.BadUtf8) f w.2) [
-            | inl g ↦ taken_err (record { value = w.0.value; at = w.0.at; rest = w.0.rest }) f (sym g.1)
-            | inr g ↦
-              stops_here d place (head_bytes 3 n ++ bytes) f c.BadUtf8 (refused_is place c.BadUtf8 f g.1)
-                (record {
+            let s = string_ok place n at bytes w.0 w.1 in
+            let len : length (take n bytes) ≡ n = omega (arith, length-take n bytes, s.0) in
+            elim (chosen_err (is_utf8 w.0.value) (taken w.0.value w.0.at w.0.rest) (refused place c.BadUtf8) f w.2) [
+              | inl g ↦ taken_err (record { value = w.0.value; at = w.0.at; rest = w.0.rest }) f (sym g.1)
+              | inr g ↦
+                  stops_here d place (head_bytes 3 n ++ bytes) f c.BadUtf8 (refused_is place c.BadUtf8 f g.1)
+                  (record {
                     text = take n bytes;
                     rest = drop n bytes;
                     fits = omega arith;
                     stands = ap (λ (k : ℕ). head_bytes 3 k ++ bytes) (sym len) ∙ ap (λ (t : List ℕ). head_bytes 3 (length (take n bytes)) ++ t) (sym (take-append-drop n bytes));
                     bad = λ u. let b : is_utf8 w.0.value ≡ true = ap is_utf8 s.1 ∙ is_utf8-from_IsUtf8 (take n bytes) u in let q : true ≡ false = sym b ∙ g.0 in cc;
                   })
-          ]
+            ]
       ]
 
   of_major : (d m k a place : ℕ) (bytes : List ℕ) (f : Fault) → m ≡ k → Stops d place (head_bytes k a ++ bytes) f → Stops d place (head_bytes m a ++ bytes) f

@@ -1,24 +1,19 @@
 -- What is read stands in the bytes.
-use Rattle.std.proofs.Common.{◌≡◌, ℕ, zero, suc, ◌+◌, ◌-◌, ◌<◌, ◌≤◌, ◌^◌, ◌⊎◌, Bool, true, false, cond, eqb, ltb, List, [], ◌∷◌, ◌++◌, length, take, drop, map, Option, Some, None, Result, Ok, Err, refl, ap, sym, ◌∙◌, subst, arith, rules, append_assoc, inl, inr, get_or}
+use Rattle.std.proofs.Common.{◌≡◌, ℕ, zero, suc, ◌+◌, ◌-◌, ◌<◌, ◌≤◌, ◌^◌, ◌⊎◌, Bool, true, false, cond, eqb, ltb, List, [], ◌∷◌, ◌++◌, length, take, drop, map, Option, Some, None, Result, Ok, Err, refl, ap, sym, ◌∙◌, subst, arith, append_assoc, inl, inr}
 use Rattle.std.specs.List.{AllByRecursion}
-use Rattle.std.specs.Prelude.{max, IfOk}
 use Rattle.std.specs.Str.{IsUtf8, is_utf8}
 use Rattle.std.specs.declared.cmp.Ordering.{Ordering}
 use Rattle.std.specs.declared.cmp.Ordering.TheVariants.{Less, Equal, Greater}
 use Rattle.std.proofs.lemmas.Str.{IsUtf8-from_is_utf8}
-use Rattle.std.proofs.lemmas.List.{take_at, drop_at, length-append, length-map, append-nil, take-append-drop, length-take}
-use Rattle.std.proofs.lemmas.Bool.{le-ltb, ltb-false, eqb-true, eqb-false}
+use Rattle.std.proofs.lemmas.List.{take_at, length-append, append-nil, take-append-drop, length-take}
+use Rattle.std.proofs.lemmas.Bool.{ltb-false, eqb-true, eqb-false}
 use Rattle.ecd_head.specs.declared.HeadFault.{HeadFault}
 use Rattle.ecd_head.specs.declared.Head.{Head}
 use Rattle.ecd_head.specs.Head.{IsWritable, head_bytes}
 use Rattle.ecd_head.specs.Fault.{head_at}
-use Rattle.ecd_head.specs.Place.{StandsAt}
-use Rattle.ecd_item.specs.declared.fault.Stop.{Stop}
-use Rattle.ecd_item.specs.declared.fault.Stop.TheVariants as stop
 use Rattle.ecd_head.proofs.Heads.{head_takes, IsBytes, IsBytes-drop}
 use Rattle.ecd_item.specs.declared.fault.Fault.{Fault}
-use Rattle.ecd_item.specs.declared.fault.Cause.{Cause}
-use Rattle.ecd_item.specs.declared.fault.Cause.TheVariants.{KeyOrder, ShortString, BadUtf8, TooDeep}
+use Rattle.ecd_item.specs.declared.fault.Cause.TheVariants.{KeyOrder, ShortString, BadUtf8}
 use Rattle.ecd_item.specs.declared.item.Item.{Item}
 use Rattle.ecd_item.specs.declared.item.Item.TheVariants.{Uint, Nint, Bytes, Text, Array, Map, Tag, Simple}
 use Rattle.ecd_item.specs.declared.item.Pair.{Pair}
@@ -26,11 +21,11 @@ use Rattle.ecd_keyorder.specs.declared.Order.{Order}
 use Rattle.ecd_keyorder.specs.Order.{comparison}
 use Rattle.ecd_item.specs.Encoding.{encoding, key_bytes, joined}
 use Rattle.ecd_item.specs.Valid.{IsValid, depth, Ascend}
-use Rattle.ecd_item.specs.Reading.{Reader, Taken, ◌>>=◌, taken, refused, headed, layer, behind, parts, item_at, inner_of, many, pairs, pair_of, string_at, text_at, made, is_above, is_less, cause_of, Gives, seen}
+use Rattle.ecd_item.specs.Reading.{Reader, Taken, ◌>>=◌, taken, refused, headed, layer, behind, parts, item_at, inner_of, many, pairs, pair_of, string_at, text_at, made, is_above, is_less}
 use Rattle.ecd_item.proofs.Layers.{encoding-Array, encoding-Map, encoding-Tag, pair_depth, greatest, depth-Array, depth-Map, depth-Tag, Array_valid, Map_valid, Tag_valid}
 use Rattle.ecd_item.specs.Encoding.{pair_bytes}
 use Rattle.ecd_item.specs.Valid.{IsValidPair}
-use Rattle.ecd_item.proofs.Again.{ok_is, fine, follows, item_again}
+use Rattle.ecd_item.proofs.Again.{ok_is, follows}
 
 module _ (order : Order) where
   -- what was taken is what stands for the value, which has P
@@ -70,7 +65,7 @@ module _ (order : Order) where
   headed_takes at bytes (Ok h) x fits e f =
       let t = head_takes bytes h.0 h.1 fits e in
       subst (Took head_text CanWrite at bytes) (ok_is (record { value = h.0; at = at + h.1; rest = drop h.1 bytes }) x f)
-          (record { whole = t.whole; place = ap (λ (k : ℕ). at + k) (sym t.long); rest_fits = IsBytes-drop h.1 bytes fits; holds = t.writable })
+      (record { whole = t.whole; place = ap (λ (k : ℕ). at + k) (sym t.long); rest_fits = IsBytes-drop h.1 bytes fits; holds = t.writable })
 
   -- one after the other
   module _ {A B C : Type 0} where
@@ -88,14 +83,14 @@ module _ (order : Order) where
   unfolding many
   many_takes {A} text P read h zero at bytes x fits e =
       subst (Took (λ xs. joined (map text xs)) (λ xs. (length xs ≡ zero) × AllByRecursion P xs) at bytes) (ok_is (record { value = []; at = at; rest = bytes }) x e)
-          (record { whole = refl; place = omega arith; rest_fits = fits; holds = (refl, tt) })
+      (record { whole = refl; place = omega arith; rest_fits = fits; holds = (refl, tt) })
   many_takes {A} text P read h (suc n) at bytes x fits e =
       let a = bind_ok (read at bytes) (λ first. many read n first.at first.rest >>= λ others. taken (first.value ∷ others.value) others.at others.rest) x e in
       let b = bind_ok (many read n a.0.at a.0.rest) (λ others. taken (a.0.value ∷ others.value) others.at others.rest) x a.2 in
       let p = h at bytes a.0 fits a.1 in
       let q = many_takes text P read h n a.0.at a.0.rest b.0 p.rest_fits b.1 in
       subst (Took (λ xs. joined (map text xs)) (λ xs. (length xs ≡ suc n) × AllByRecursion P xs) at bytes) (ok_is (record { value = a.0.value ∷ b.0.value; at = b.0.at; rest = b.0.rest }) x b.2)
-          (then text P (λ xs. joined (map text xs)) (λ xs. (length xs ≡ n) × AllByRecursion P xs) (λ xs. joined (map text xs)) (λ xs. (length xs ≡ suc n) × AllByRecursion P xs) at bytes a.0 b.0 (a.0.value ∷ b.0.value) p q refl (ap suc q.holds.0, (p.holds, q.holds.1)))
+      (then text P (λ xs. joined (map text xs)) (λ xs. (length xs ≡ n) × AllByRecursion P xs) (λ xs. joined (map text xs)) (λ xs. (length xs ≡ suc n) × AllByRecursion P xs) at bytes a.0 b.0 (a.0.value ∷ b.0.value) p q refl (ap suc q.holds.0, (p.holds, q.holds.1)))
 
   string_takes : (place n : ℕ) → Takes (λ bs. bs) (λ bs. length bs ≡ n) (string_at place n)
   string_takes place n at bytes x fits e =
@@ -103,7 +98,7 @@ module _ (order : Order) where
       let long : n ≤ length bytes = ltb-false _ _ g.0 in
       let len : length (take n bytes) ≡ n = omega (arith, length-take n bytes) in
       subst (Took (λ bs. bs) (λ bs. length bs ≡ n) at bytes) (ok_is (record { value = take n bytes; at = at + n; rest = drop n bytes }) x g.1)
-          (record { whole = sym (take-append-drop n bytes); place = ap (λ (k : ℕ). at + k) (sym len); rest_fits = IsBytes-drop n bytes fits; holds = len })
+      (record { whole = sym (take-append-drop n bytes); place = ap (λ (k : ℕ). at + k) (sym len); rest_fits = IsBytes-drop n bytes fits; holds = len })
 
   -- ---- pairs
 
@@ -134,14 +129,14 @@ module _ (order : Order) where
       let pv : Took pair_bytes (λ p. Q p.key × Q p.value) at bytes (record { value = pair_of k.value v.value; at = v.at; rest = v.rest }) = then encoding Q encoding Q pair_bytes (λ p. Q p.key × Q p.value) at bytes k v (pair_of k.value v.value) p q refl (p.holds, q.holds) in
       let ascends : follows order last (map key_bytes (pair_of k.value v.value ∷ o.value)) = rw (← ke) (above, r.holds.ascends) in
       subst (Took pairs_text (ArePairs Q last (suc n)) at bytes) (ok_is (record { value = pair_of k.value v.value ∷ o.value; at = o.at; rest = o.rest }) x e)
-          (then pair_bytes (λ p. Q p.key × Q p.value) pairs_text (ArePairs Q (Some kb) n) pairs_text (ArePairs Q last (suc n)) at bytes (record { value = pair_of k.value v.value; at = v.at; rest = v.rest }) o (pair_of k.value v.value ∷ o.value) pv r refl
-              (record { count = ap suc r.holds.count; each = ((p.holds, q.holds), r.holds.each); ascends = ascends }))
+      (then pair_bytes (λ p. Q p.key × Q p.value) pairs_text (ArePairs Q (Some kb) n) pairs_text (ArePairs Q last (suc n)) at bytes (record { value = pair_of k.value v.value; at = v.at; rest = v.rest }) o (pair_of k.value v.value ∷ o.value) pv r refl
+      (record { count = ap suc r.holds.count; each = ((p.holds, q.holds), r.holds.each); ascends = ascends }))
 
   pairs_takes : (Q : Item → Type 0) (read : Reader Item) → Takes encoding Q read → (n : ℕ) (last : Option (List ℕ)) → Takes pairs_text (ArePairs Q last n) (pairs order read last n)
   unfolding pairs
   pairs_takes Q read h zero last at bytes x fits e =
       subst (Took pairs_text (ArePairs Q last zero) at bytes) (ok_is (record { value = []; at = at; rest = bytes }) x e)
-          (record { whole = refl; place = omega arith; rest_fits = fits; holds = record { count = refl; each = tt; ascends = tt } })
+      (record { whole = refl; place = omega arith; rest_fits = fits; holds = record { count = refl; each = tt; ascends = tt } })
   pairs_takes Q read h (suc n) last at bytes x fits e =
       let a = bind_ok (read at bytes) (λ key. cond (is_above order last (take (key.at - at) bytes)) (read key.at key.rest) (refused at KeyOrder) >>= λ value. pairs order read (Some (take (key.at - at) bytes)) n value.at value.rest >>= λ others. taken (pair_of key.value value.value ∷ others.value) others.at others.rest) x e in
       let b = bind_ok (cond (is_above order last (take (a.0.at - at) bytes)) (read a.0.at a.0.rest) (refused at KeyOrder)) (λ value. pairs order read (Some (take (a.0.at - at) bytes)) n value.at value.rest >>= λ others. taken (pair_of a.0.value value.value ∷ others.value) others.at others.rest) x a.2 in
@@ -150,7 +145,7 @@ module _ (order : Order) where
       let p = h at bytes a.0 fits a.1 in
       let q = h a.0.at a.0.rest b.0 p.rest_fits g.1 in
       pair_took Q last n at bytes (take (a.0.at - at) bytes) a.0 b.0 o.0 x p q (key_is at bytes a.0 p.whole p.place) g.0
-          (pairs_takes Q read h n (Some (take (a.0.at - at) bytes)) b.0.at b.0.rest o.0 q.rest_fits o.1) o.2
+      (pairs_takes Q read h n (Some (take (a.0.at - at) bytes)) b.0.at b.0.rest o.0 q.rest_fits o.1) o.2
 
   -- ---- an item behind its head
 
@@ -169,7 +164,7 @@ module _ (order : Order) where
   atom_behind : (m a d at : ℕ) (bytes : List ℕ) (i : Item) (x : Taken Item) → IsBytes bytes → taken i at bytes ≡ Ok x → encoding i ≡ head_bytes m a → IsValid order i → depth i ≤ d → Behind (record { major = m; arg = a }) d at bytes x
   atom_behind m a d at bytes i x fits e text valid deep =
       subst (Behind (record { major = m; arg = a }) d at bytes) (ok_is (record { value = i; at = at; rest = bytes }) x e)
-          (record { more = []; whole = refl; text = text ∙ sym (append-nil (head_bytes m a)); place = omega arith; rest_fits = fits; valid = valid; deep = deep })
+      (record { more = []; whole = refl; text = text ∙ sym (append-nil (head_bytes m a)); place = omega arith; rest_fits = fits; valid = valid; deep = deep })
 
   -- what was read behind the head makes the item
   made_behind : {A : Type 0} (text : A → List ℕ) (P : A → Type 0) (m a d at : ℕ) (bytes : List ℕ) (f : A → Item) (r : Result (Taken A) Fault) (x : Taken Item) → ((y : Taken A) → r ≡ Ok y → Took text P at bytes y) → made f r ≡ Ok x
@@ -179,7 +174,7 @@ module _ (order : Order) where
       let t = took b.0 b.1 in
       let l = law b.0.value t.holds in
       subst (Behind (record { major = m; arg = a }) d at bytes) (ok_is (record { value = f b.0.value; at = b.0.at; rest = b.0.rest }) x b.2)
-          (record { more = text b.0.value; whole = t.whole; text = l.0; place = t.place; rest_fits = t.rest_fits; valid = l.1; deep = l.2 })
+      (record { more = text b.0.value; whole = t.whole; text = l.0; place = t.place; rest_fits = t.rest_fits; valid = l.1; deep = l.2 })
 
   text_takes : (place n : ℕ) → Takes (λ bs. bs) (λ bs. (length bs ≡ n) × IsUtf8 bs) (text_at place n)
   text_takes place n at bytes x fits e =
@@ -187,7 +182,7 @@ module _ (order : Order) where
       let g = guard_ok (is_utf8 b.0.value) (record { place = place; cause = BadUtf8 }) (taken b.0.value b.0.at b.0.rest) x b.2 in
       let t = string_takes place n at bytes b.0 fits b.1 in
       subst (Took (λ bs. bs) (λ bs. (length bs ≡ n) × IsUtf8 bs) at bytes) (ok_is (record { value = b.0.value; at = b.0.at; rest = b.0.rest }) x g.1)
-          (record { whole = t.whole; place = t.place; rest_fits = t.rest_fits; holds = (t.holds, IsUtf8-from_is_utf8 b.0.value g.0) })
+      (record { whole = t.whole; place = t.place; rest_fits = t.rest_fits; holds = (t.holds, IsUtf8-from_is_utf8 b.0.value g.0) })
 
   each_valid : (d : ℕ) (xs : List Item) → AllByRecursion (Good d) xs → AllByRecursion (IsValid order) xs × (greatest (map depth xs) ≤ d)
   each_valid d [] h = (tt, omega arith)

@@ -1,6 +1,6 @@
 -- What it takes for an item to be valid and shallow.
-use Rattle.std.proofs.Common.{◌≡◌, ℕ, zero, suc, ◌+◌, ◌-◌, ◌<◌, ◌≤◌, ◌^◌, ◌⊎◌, Bool, true, false, leb, ltb, List, [], ◌∷◌, ◌++◌, length, map, take, get_or, refl, ap, sym, ◌∙◌, subst, arith, rules, inl, inr}
-use Rattle.std.specs.Prelude.{max, ◌↔◌, IsTrue}
+use Rattle.std.proofs.Common.{◌≡◌, ℕ, zero, suc, ◌+◌, ◌-◌, ◌<◌, ◌≤◌, ◌^◌, ◌⊎◌, Bool, true, false, leb, ltb, List, [], ◌∷◌, length, map, take, get_or, refl, ap, sym, ◌∙◌, subst, arith, inl, inr}
+use Rattle.std.specs.Prelude.{◌↔◌, IsTrue}
 use Rattle.std.specs.List.{AllByRecursion}
 use Rattle.std.specs.Str.{IsUtf8, is_utf8}
 use Rattle.std.specs.Ordering.{is_lt}
@@ -10,12 +10,12 @@ use Rattle.std.proofs.lemmas.List.{take_all}
 use Rattle.std.proofs.lemmas.Bool.{le-ltb, lt-ltb, le-leb, leb-true}
 use Rattle.std.proofs.lemmas.Str.{is_utf8-from_IsUtf8, IsUtf8-from_is_utf8}
 use Rattle.ecd_keyorder.specs.declared.Order.{Order}
-use Rattle.ecd_keyorder.specs.Order.{comparison, IsBefore}
+use Rattle.ecd_keyorder.specs.Order.{IsBefore}
 use Rattle.ecd_item.specs.declared.item.Item.{Item}
 use Rattle.ecd_item.specs.declared.item.Item.TheVariants.{Uint, Nint, Bytes, Text, Array, Map, Tag, Simple}
 use Rattle.ecd_item.specs.declared.item.Pair.{Pair}
 use Rattle.ecd_item.specs.Encoding.{key_bytes}
-use Rattle.ecd_item.specs.Valid.{IsValid, IsValidPair, IsWhole, IsWholePair, Ascend, IsBeforeFirst, depth}
+use Rattle.ecd_item.specs.Valid.{IsValid, IsValidPair, IsWhole, IsWholePair, Ascend, depth}
 use Rattle.ecd_item.proofs.Layers.{depth-Array, depth-Map, depth-Tag, greatest, pair_depth, valid_Array, valid_Map, valid_Tag, Array_valid, Map_valid, Tag_valid}
 use Rattle.ecd_item.proofs.Emitting.{at_place}
 

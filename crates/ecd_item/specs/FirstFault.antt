@@ -1,5 +1,5 @@
 -- Why no item is accepted at a place: the first head place with a cause.
-use Rattle.std.specs.Prelude.{◌≡◌, ℕ, zero, suc, ◌+◌, ◌-◌, ◌<◌, ◌≤◌, ◌^◌, ◌⊎◌, List, [], ◌∷◌, ◌++◌, length, map, Option, Some, None, Result, Ok, Err}
+use Rattle.std.specs.Prelude.{◌≡◌, ℕ, zero, suc, ◌+◌, ◌-◌, ◌<◌, ◌^◌, ◌⊎◌, List, [], ◌∷◌, ◌++◌, length, map, Option, Some, None, Result, Err}
 use Rattle.std.specs.List.{AllByRecursion}
 use Rattle.std.specs.Str.{IsUtf8}
 use Rattle.ecd_head.specs.Head.{head_bytes}
@@ -35,9 +35,9 @@ abbrev pub IsOpen : Order → ℕ → Step → Type 0
 IsOpen order deepest (InTag number) = number < 2 ^ 64
 IsOpen order deepest (InArray count before) = (count < 2 ^ 64) × (length before < count) × AllByRecursion (IsWhole order deepest) before
 IsOpen order deepest (AtKey count before) =
-  (count < 2 ^ 64) × (length before < count) × AllByRecursion (IsWholePair order deepest) before × Ascend order (map key_bytes before)
+    (count < 2 ^ 64) × (length before < count) × AllByRecursion (IsWholePair order deepest) before × Ascend order (map key_bytes before)
 IsOpen order deepest (AtValue count before key) =
-  (count < 2 ^ 64) × (length before < count) × AllByRecursion (IsWholePair order deepest) before × IsWhole order deepest key
+    (count < 2 ^ 64) × (length before < count) × AllByRecursion (IsWholePair order deepest) before × IsWhole order deepest key
     × Ascend order (map key_bytes before ++ encoding key ∷ [])
 
 -- An unfinished item is its steps, from the outside in. Each allows one level less inside.

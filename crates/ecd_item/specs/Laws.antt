@@ -26,17 +26,17 @@ BeginsWithOneItem = (order : Order) (item other : Item) (rest others : List ℕ)
 -- There is at most one first fault.
 abbrev pub HasOneFirstFault : Type 0
 HasOneFirstFault =
-  (order : Order) (deepest at : ℕ) (bytes : List ℕ) (place other : ℕ) (cause another : Cause) → IsFirstFault order deepest at bytes place cause → IsFirstFault order deepest at bytes other another → (place ≡ other) × (cause ≡ another)
+    (order : Order) (deepest at : ℕ) (bytes : List ℕ) (place other : ℕ) (cause another : Cause) → IsFirstFault order deepest at bytes place cause → IsFirstFault order deepest at bytes other another → (place ≡ other) × (cause ≡ another)
 
 -- Bytes that begin with the encoding of an item of at most the depth have no first fault.
 abbrev pub EncodingHasNoFault : Type 0
 EncodingHasNoFault =
-  (order : Order) (deepest at : ℕ) (item : Item) (rest : List ℕ) (place : ℕ) (cause : Cause) → IsWhole order deepest item → IsFirstFault order deepest at (encoding item ++ rest) place cause → ⊥
+    (order : Order) (deepest at : ℕ) (item : Item) (rest : List ℕ) (place : ℕ) (cause : Cause) → IsWhole order deepest item → IsFirstFault order deepest at (encoding item ++ rest) place cause → ⊥
 
 -- All other bytes have one.
 abbrev pub IsItemOrFault : Order → ℕ → ℕ → List ℕ → Type 0
 IsItemOrFault order deepest at bytes =
-  ((item : Item) × (rest : List ℕ) × IsWhole order deepest item × (bytes ≡ encoding item ++ rest)) ⊎ ((place : ℕ) × (cause : Cause) × IsFirstFault order deepest at bytes place cause)
+    ((item : Item) × (rest : List ℕ) × IsWhole order deepest item × (bytes ≡ encoding item ++ rest)) ⊎ ((place : ℕ) × (cause : Cause) × IsFirstFault order deepest at bytes place cause)
 
 abbrev pub EveryBytesHaveOne : Type 0
 EveryBytesHaveOne = (order : Order) (deepest at : ℕ) (bytes : List ℕ) → All (λ byte. byte < 256) bytes → IsItemOrFault order deepest at bytes

@@ -1,12 +1,10 @@
 -- An item's encoding as a head and what follows it.
-use Rattle.std.specs.Prelude.{ℕ, List, [], ◌∷◌, ◌++◌, length, map, Option, Some, None}
+use Rattle.std.specs.Prelude.{ℕ, List, [], ◌∷◌, length, map, Option, Some, None}
 use Rattle.ecd_head.specs.declared.Head.{Head}
-use Rattle.ecd_keyorder.specs.declared.Order.{Order}
 use Rattle.ecd_item.specs.declared.item.Item.{Item, Array', Map', Tag', items-the_row-Item, items-the_row-Pair}
 use Rattle.ecd_item.specs.declared.item.Item.TheVariants.{Uint, Nint, Bytes, Text, Simple}
 use Rattle.ecd_item.specs.declared.item.Pair.{Pair}
-use Rattle.ecd_item.specs.Encoding.{encoding, encodings, pair_encodings, joined, both}
-use Rattle.ecd_item.specs.Valid.{IsValid, depth}
+use Rattle.ecd_item.specs.Encoding.{encodings, pair_encodings, joined, both}
 
 abbrev pub head_from : ℕ → ℕ → Head
 head_from major arg = record { major = major; arg = arg }

@@ -1,5 +1,5 @@
 -- Reading an item from left to right, with the first fault that is met: what the code does, as a function of the bytes.
-use Rattle.std.specs.Prelude.{◌≡◌, ℕ, zero, suc, ◌+◌, ◌-◌, ◌<◌, ◌≤◌, ◌^◌, Bool, true, false, ◌⊎◌, List, [], ◌∷◌, ◌++◌, length, take, drop, Option, Some, None, Result, Ok, Err, nat_lt, ◌==◌, if◌then◌else◌}
+use Rattle.std.specs.Prelude.{◌≡◌, ℕ, zero, suc, ◌+◌, ◌-◌, Bool, true, false, List, [], ◌∷◌, length, take, drop, Option, Some, None, Result, Ok, Err, nat_lt, ◌==◌, if◌then◌else◌}
 use Rattle.std.specs.Str.{is_utf8}
 use Rattle.std.specs.declared.cmp.Ordering.{Ordering}
 use Rattle.std.specs.declared.cmp.Ordering.TheVariants.{Less, Equal, Greater}
@@ -96,19 +96,19 @@ made f r = r >>= λ x. taken (f x.value) x.at x.rest
 unfoldable pub parts : Order → Option (Reader Item) → ℕ → Head → Reader Item
 parts order None place head at bytes = refused place c.TooDeep
 parts order (Some read) place head at bytes =
-  if head.major == 4 then made Array (many read head.arg at bytes)
-  else (if head.major == 5 then made Map (pairs order read None head.arg at bytes)
-  else made (Tag head.arg) (read at bytes))
+    if head.major == 4 then made Array (many read head.arg at bytes)
+    else (if head.major == 5 then made Map (pairs order read None head.arg at bytes)
+    else made (Tag head.arg) (read at bytes))
 
 -- what stands behind a head
 unfoldable pub behind : Order → Option (Reader Item) → ℕ → Head → Reader Item
 behind order inner place head at bytes =
-  if head.major == 0 then taken (Uint head.arg) at bytes
-  else (if head.major == 1 then taken (Nint head.arg) at bytes
-  else (if head.major == 2 then made Bytes (string_at place head.arg at bytes)
-  else (if head.major == 3 then made Text (text_at place head.arg at bytes)
-  else (if head.major == 7 then taken (Simple head.arg) at bytes
-  else parts order inner place head at bytes))))
+    if head.major == 0 then taken (Uint head.arg) at bytes
+    else (if head.major == 1 then taken (Nint head.arg) at bytes
+    else (if head.major == 2 then made Bytes (string_at place head.arg at bytes)
+    else (if head.major == 3 then made Text (text_at place head.arg at bytes)
+    else (if head.major == 7 then taken (Simple head.arg) at bytes
+    else parts order inner place head at bytes))))
 
 unfoldable pub layer : Order → Option (Reader Item) → Reader Item
 layer order inner at bytes = headed at bytes (head_at bytes) >>= λ h. behind order inner at h.value h.at h.rest

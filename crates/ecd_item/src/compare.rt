@@ -27,7 +27,11 @@ fn compare_heads(one: Head, other: Head) -> Ordering
     let mut other_bytes = [0; MOST_HEAD_BYTES];
     let one_end = emit_head(one.major, one.arg, &mut one_bytes, 0);
     let other_end = emit_head(other.major, other.arg, &mut other_bytes, 0);
-    compare(Order::Bytewise, &one_bytes[..one_end], &other_bytes[..other_end])
+    compare(
+        Order::Bytewise,
+        &one_bytes[..one_end],
+        &other_bytes[..other_end],
+    )
 }
 
 /// Which of two items' encodings comes first.

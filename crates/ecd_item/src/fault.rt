@@ -72,14 +72,18 @@ pub enum ItemFault {
 /// A head's place and what stands against the item there.
 #[derive(Clone, Copy, Debug, PartialEq, Eq)]
 pub struct Fault {
+    /// The place of the head.
     pub place: usize,
+    /// What stands against the item.
     pub cause: Cause,
 }
 
 /// Why reading stopped.
 #[derive(Clone, Copy, Debug, PartialEq, Eq)]
 pub enum Stop {
+    /// Memory ran out.
     Memory,
+    /// A fault stands in the bytes.
     Fault(Fault),
 }
 

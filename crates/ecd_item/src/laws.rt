@@ -8,13 +8,11 @@ pub fn one_encoding()
     ensures one_item { EncodesOneItem }
     ensures no_proper_prefix { HasNoProperPrefix }
     ensures one_front { BeginsWithOneItem }
-{
-}
+{}
 
 /// Bytes begin with the encoding of an item within the depth or have a first fault, never both and never two.
 pub fn one_first_fault()
     ensures one_fault { HasOneFirstFault }
     ensures no_fault { EncodingHasNoFault }
     ensures always_one { EveryBytesHaveOne }
-{
-}
+{}

@@ -4,11 +4,12 @@
 mod compare;
 mod fault;
 mod item;
+pub mod laws;
 mod parts;
 mod read;
+#[cfg(test)]
+mod tests;
 mod valid;
-
-pub mod laws;
 mod write;
 
 pub use ecd_head::NoRoom;

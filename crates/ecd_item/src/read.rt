@@ -104,12 +104,7 @@ fn text_of(
 
 #[cycle(reading)]
 #[tactic(auto, unfolding(crate::specs::Reading::item_at, crate::specs::Reading::layer, crate::specs::Reading::inner_of))]
-fn item_of(
-    alloc: Global,
-    bytes: &[u8],
-    at: usize,
-    depth: u8,
-) -> Result<(Item, usize), Stop>
+fn item_of(alloc: Global, bytes: &[u8], at: usize, depth: u8) -> Result<(Item, usize), Stop>
     requires { at ≤ length bytes.now }
     ensures gives { Gives (seen bytes.now) result (item_at Bytewise depth at (drop at bytes.now)) }
     ensures within { IfOk result (λ x. x.1 ≤ length bytes.now) }

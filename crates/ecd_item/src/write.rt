@@ -5,7 +5,7 @@ ghost use Rattle.ecd_head.specs.Head.{head_bytes, IsWritable};
 ghost use Rattle.ecd_head.specs.Place.{WritesAt};
 ghost use Rattle.ecd_keyorder.specs.declared.Order.TheVariants.{Bytewise};
 ghost use Rattle.ecd_item.specs.Encoding.{encoding, encoded_length, pair_bytes, joined};
-ghost use Rattle.ecd_item.specs.Valid.{IsValid};
+ghost use Rattle.ecd_item.specs.Valid.{IsValid, IsWhole, depth as depth_of};
 ghost use Rattle.ecd_item.specs.Writing.{Emits};
 
 use crate::item::{Item, Pair};
@@ -46,10 +46,17 @@ fn string_length(bytes: &[u8]) -> u64
     add(head_length(count), count.min(LIMIT))
 }
 
-/// The length of the encoding, or 2^63 where it is longer.
+/// The length of the item's encoding, or 2^63 where it is longer (RFC 8949, section 3). It takes no memory.
+pub fn length_of(item: &Item) -> u64
+    requires shallow { depth_of item.now ≤ 64 }
+    ensures { result ≡ min (encoded_length item.now) (2 ^ 63) }
+{
+    measure(item)
+}
+
 #[cycle(measuring)]
 #[tactic(auto, using(crate::proofs::Layers::layers))]
-pub fn length_of(item: &Item) -> u64
+fn measure(item: &Item) -> u64
     ensures { result ≡ min (encoded_length item.now) (2 ^ 63) }
 {
     match item {
@@ -57,9 +64,15 @@ pub fn length_of(item: &Item) -> u64
         Item::Nint(n) => head_length(*n),
         Item::Bytes(bytes) => string_length(bytes.as_slice()),
         Item::Text(bytes) => string_length(bytes.as_slice()),
-        Item::Array(items) => add(head_length(items.len() as u64), items_length(items.as_slice())),
-        Item::Map(pairs) => add(head_length(pairs.len() as u64), pairs_length(pairs.as_slice())),
-        Item::Tag(n, inner) => add(head_length(*n), length_of(inner.get())),
+        Item::Array(items) => add(
+            head_length(items.len() as u64),
+            items_length(items.as_slice()),
+        ),
+        Item::Map(pairs) => add(
+            head_length(pairs.len() as u64),
+            pairs_length(pairs.as_slice()),
+        ),
+        Item::Tag(n, inner) => add(head_length(*n), measure(inner.get())),
         Item::Simple(n) => head_length(*n as u64),
     }
 }
@@ -70,7 +83,7 @@ fn items_length(items: &[Item]) -> u64
 {
     let mut total = 0;
     for item in items {
-        total = add(total, length_of(item));
+        total = add(total, measure(item));
     }
     total
 }
@@ -81,8 +94,8 @@ fn pairs_length(pairs: &[Pair]) -> u64
 {
     let mut total = 0;
     for pair in pairs {
-        total = add(total, length_of(&pair.key));
-        total = add(total, length_of(&pair.value));
+        total = add(total, measure(&pair.key));
+        total = add(total, measure(&pair.value));
     }
     total
 }
@@ -166,12 +179,17 @@ fn emit_map(pairs: &[Pair], into: &mut [u8], at: usize) -> usize
     here
 }
 
-/// Writes the encoding from a place on, where it fits.
+/// Writes the item's encoding from a place on, where it fits, and answers the place behind it (RFC 8949, sections 3 and 4.2.1).
+/// It takes no memory.
+///
+/// # Errors
+///
+/// `NoRoom` exactly where the encoding is longer than the room from the place on; no byte is changed then.
 pub fn write_item(item: &Item, into: &mut [u8], at: usize) -> Result<usize, NoRoom>
-    requires valid { IsValid Bytewise item.now }
+    requires whole { IsWhole Bytewise 64 item.now }
     requires within { at ≤ length into.old }
-    ensures ok { IfOk result (λ end. Emits into.old at (encoding item.now) into.new end) }
-    ensures full { IsErr result ↔ (length into.old < at + length (encoding item.now)) }
+    ensures ok { IfOk result (λ end. WritesAt into.old at (encoding item.now) into.new × (end ≡ at + encoded_length item.now)) }
+    ensures full { IsErr result ↔ (length into.old < at + encoded_length item.now) }
     ensures err { OnErr result (into.new ≡ into.old) }
 {
     if ((into.len() - at) as u64) < length_of(item) {

@@ -1,4 +1,4 @@
-use Rattle.std.proofs.Common.{◌≡◌, ◌∙◌, sym}
+use Rattle.std.proofs.Common.{◌∙◌, sym}
 use Rattle.ecd_head.proofs.Heads.{front_is, empty_is}
 use Rattle.ecd_head.proofs.front.Goals as goal
 

@@ -1,7 +1,4 @@
-use Rattle.std.proofs.Common.{◌≡◌, ◌++◌, ◌*◌, ◌+◌, ◌^◌, List, [], ◌∷◌, ℕ, length, IfOk, arith, rules, sym, ◌∙◌, ap, subst, refl, get_or}
-use Rattle.std.specs.Int.{w64, to_be_bytes}
-use Rattle.ecd_head.specs.Head.{head_bytes}
-use Rattle.ecd_head.specs.Place.{WritesAt}
+use Rattle.std.proofs.Common.{arith}
 use Rattle.ecd_head.proofs.Heads.{head_bytes-9}
 use Rattle.ecd_head.proofs.write_head.Goals as goal
 

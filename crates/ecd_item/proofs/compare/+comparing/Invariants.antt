@@ -1,4 +1,4 @@
-use Rattle.std.proofs.Common.{◌≡◌, length, map, take}
+use Rattle.std.proofs.Common.{◌≡◌, map, take}
 use Rattle.ecd_item.specs.Encoding.{encoding, pair_bytes, joined}
 use Rattle.ecd_item.proofs.compare.+comparing.Given as goal
 

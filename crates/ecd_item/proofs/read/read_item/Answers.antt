@@ -1,13 +1,5 @@
-use Rattle.std.proofs.Common.{◌≡◌, ℕ, List, drop, sym, subst, arith, Ok, Err, Result}
-use Rattle.std.specs.Prelude.{IfOk, IfErr}
+use Rattle.std.proofs.Common.{arith}
 use Rattle.ecd_keyorder.specs.declared.Order.TheVariants.{Bytewise}
-use Rattle.ecd_head.specs.Place.{StandsAt}
-use Rattle.ecd_item.specs.declared.fault.ItemFault.{ItemFault}
-use Rattle.ecd_item.specs.declared.fault.ItemFault.TheVariants as f
-use Rattle.ecd_item.specs.declared.item.Item.{Item}
-use Rattle.ecd_item.specs.Encoding.{encoding}
-use Rattle.ecd_item.specs.Valid.{IsWhole}
-use Rattle.ecd_item.specs.FirstFault.{Answers, TellsFirstFault, number_of}
 use Rattle.ecd_item.proofs.Clauses.{is_found, is_only, is_fault, is_refused}
 use Rattle.ecd_item.proofs.read.read_item.Goals as goal
 

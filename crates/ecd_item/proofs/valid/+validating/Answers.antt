@@ -1,4 +1,4 @@
-use Rattle.std.proofs.Common.{◌≡◌, ◌<◌, ◌^◌, ◌∙◌, sym, ap, refl, arith, length, true}
+use Rattle.std.proofs.Common.{arith}
 use Rattle.ecd_keyorder.specs.declared.Order.TheVariants.{Bytewise}
 use Rattle.ecd_item.specs.Valid.{IsWhole, IsWholePair}
 use Rattle.ecd_item.proofs.Whole.{all_more, all_done, uint_tells, nint_tells, bytes_tells, text_tells, low_tells, high_tells, array_tells, map_tells, tag_tells, deep_array, deep_map, deep_tag, pairs_end, pairs_valid}
@@ -71,4 +71,3 @@ is_valid-returns-then-depth-gt0-3 t c =
 pub is_valid-returns-else-depth-gt0-3 : goal.is_valid-returns-else-depth-gt0-3
 is_valid-returns-else-depth-gt0-3 t c =
     deep_tag Bytewise c.args.depth c.in-Tag.number c.in-Tag.inner c.args.item.now c.in-Tag.is c.if-depth-gt0-3.false
-

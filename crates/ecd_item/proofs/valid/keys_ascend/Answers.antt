@@ -1,4 +1,4 @@
-use Rattle.std.proofs.Common.{◌≡◌, ◌∙◌, sym, ap, refl, arith}
+use Rattle.std.proofs.Common.{◌∙◌, sym}
 use Rattle.ecd_keyorder.specs.declared.Order.TheVariants.{Bytewise}
 use Rattle.ecd_item.specs.Encoding.{key_bytes}
 use Rattle.ecd_item.proofs.Whole.{ascend_one, ascend_next, ascend_fails, ascend_all, lt_is, lt_not}

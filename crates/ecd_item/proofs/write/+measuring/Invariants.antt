@@ -1,4 +1,4 @@
-use Rattle.std.proofs.Common.{◌≡◌, ◌≤◌, ◌+◌, ◌^◌, ◌++◌, ℕ, length, take, map}
+use Rattle.std.proofs.Common.{◌≡◌, ◌^◌, length, take, map}
 use Rattle.std.specs.Prelude.{min}
 use Rattle.ecd_item.specs.Encoding.{encoding, pair_bytes, joined}
 use Rattle.ecd_item.proofs.write.+measuring.Given as goal

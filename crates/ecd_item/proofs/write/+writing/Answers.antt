@@ -1,7 +1,7 @@
-use Rattle.std.proofs.Common.{◌≡◌, ◌∙◌, ◌+◌, ◌++◌, sym, ap, arith, length, map, rules}
+use Rattle.std.proofs.Common.{ap, arith, length, rules}
 use Rattle.ecd_head.specs.Head.{head_bytes}
 use Rattle.ecd_keyorder.specs.declared.Order.TheVariants.{Bytewise}
-use Rattle.ecd_item.specs.Encoding.{encoding, joined}
+use Rattle.ecd_item.specs.Encoding.{encoding}
 use Rattle.ecd_item.specs.declared.item.Item.{the_lemmas}
 use Rattle.ecd_item.proofs.Layers.{encoding-Array, encoding-Map, encoding-Tag, valid_Tag}
 use Rattle.ecd_item.specs.Encoding.{pair_bytes}
@@ -12,9 +12,13 @@ pub emit_array-emit_head-here-requires-clause-room : goal.emit_array-emit_head-h
 emit_array-emit_head-here-requires-clause-room t c = head_room c.args.into.now c.args.at _ _ _ (encoding-Array c.args.items.now) c.requires.room
 
 pub emit_array-emit-here-requires : goal.emit_array-emit-here-requires
-emit_array-emit-here-requires t c =
-    (search (rules, the_lemmas), (item_valid Bytewise c.args.items.now c.loop-item.item-index c.item-item.result c.loop-item-test.true c.item-item.is c.requires.valid,
-        piece_room encoding c.args.items.now c.loop-item.item-index c.item-item.result _ _ c.args.into.now c.loop-item.into c.args.at c.loop-item.here c.loop-item-test.true c.item-item.is (encoding-Array c.args.items.now) c.requires.room c.loop-item.invariant))
+emit_array-emit-here-requires t c = (
+  search (rules, the_lemmas),
+  (
+    item_valid Bytewise c.args.items.now c.loop-item.item-index c.item-item.result c.loop-item-test.true c.item-item.is c.requires.valid,
+    piece_room encoding c.args.items.now c.loop-item.item-index c.item-item.result _ _ c.args.into.now c.loop-item.into c.args.at c.loop-item.here c.loop-item-test.true c.item-item.is (encoding-Array c.args.items.now) c.requires.room c.loop-item.invariant,
+  ),
+)
 
 pub emit_array-loop-item-preserved : goal.emit_array-loop-item-preserved
 emit_array-loop-item-preserved t c =
@@ -42,7 +46,7 @@ emit_map-emit-here-requires-in-loop-pair t c =
 pub emit_map-loop-pair-preserved : goal.emit_map-loop-pair-preserved
 emit_map-loop-pair-preserved t c =
     piece_next pair_bytes c.args.pairs.now c.loop-pair.pair-index c.pair-item.result (head_bytes 5 (length c.args.pairs.now)) c.args.into.now c.loop-pair.into c.emit-here-in-loop-pair.new.into c.args.at c.loop-pair.here c.emit-here-in-loop-pair.result c.loop-pair-test.true c.pair-item.is c.loop-pair.invariant
-        (Emits-then c.loop-pair.into c.loop-pair.here _ c.emit-here.new.into c.emit-here.result _ c.emit-here-in-loop-pair.new.into c.emit-here-in-loop-pair.result c.emit-here.ensures c.emit-here-in-loop-pair.ensures)
+    (Emits-then c.loop-pair.into c.loop-pair.here _ c.emit-here.new.into c.emit-here.result _ c.emit-here-in-loop-pair.new.into c.emit-here-in-loop-pair.result c.emit-here.ensures c.emit-here-in-loop-pair.ensures)
 
 pub emit_map-returns : goal.emit_map-returns
 emit_map-returns t c =

@@ -1,4 +1,4 @@
-use Rattle.std.proofs.Common.{◌≡◌, ◌≤◌, ◌+◌, ◌^◌, ◌++◌, ℕ, length, take, map}
+use Rattle.std.proofs.Common.{◌++◌, length, take, map}
 use Rattle.ecd_head.specs.Head.{head_bytes}
 use Rattle.ecd_item.specs.Encoding.{encoding, joined}
 use Rattle.ecd_item.specs.Writing.{Emits}
