@@ -46,22 +46,25 @@ AreOpen order deepest [] = Unit {0}
 AreOpen order zero (step ∷ steps) = ⊥
 AreOpen order (suc deepest) (step ∷ steps) = IsOpen order deepest step × AreOpen order deepest steps
 
+-- The bytes of all steps.
 abbrev pub steps_bytes : List Step → List ℕ
 steps_bytes [] = []
 steps_bytes (step ∷ steps) = step_bytes step ++ steps_bytes steps
 
+-- The last of some keys, where there is one.
 abbrev pub last_of : List (List ℕ) → Option (List ℕ)
 last_of [] = None
 last_of (one ∷ []) = Some one
 last_of (one ∷ next ∷ others) = last_of (next ∷ others)
 
--- Where a key must begin that is not its map's first: the encoding of the key before it.
+-- Where the next part is a key, but not its map's first: the encoding of the key before it.
 abbrev pub key_before_in : Step → Option (List ℕ)
 key_before_in (InTag number) = None
 key_before_in (InArray count before) = None
 key_before_in (AtKey count before) = last_of (map key_bytes before)
 key_before_in (AtValue count before key) = None
 
+-- The same for the innermost step.
 abbrev pub key_before : List Step → Option (List ℕ)
 key_before [] = None
 key_before (step ∷ []) = key_before_in step

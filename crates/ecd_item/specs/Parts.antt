@@ -6,6 +6,7 @@ use Rattle.ecd_item.specs.declared.item.Item.TheVariants.{Uint, Nint, Bytes, Tex
 use Rattle.ecd_item.specs.declared.item.Pair.{Pair}
 use Rattle.ecd_item.specs.Encoding.{encodings, pair_encodings, joined, both}
 
+-- A head of this major type and argument.
 abbrev pub head_from : ℕ → ℕ → Head
 head_from major arg = record { major = major; arg = arg }
 
@@ -64,11 +65,12 @@ pairs_in (Map' _ pairs) = items-the_row-Pair _ pairs
 pairs_in (Tag' n _ inner) = []
 pairs_in (Simple n) = []
 
--- The item in a tag; none in any other item.
+-- The first of some items, where there is one.
 abbrev pub first_of : List Item → Option Item
 first_of [] = None
 first_of (item ∷ items) = Some item
 
+-- The item in a tag; none in any other item.
 unfoldable pub enclosed_in : Item → Option Item
 enclosed_in (Uint n) = None
 enclosed_in (Nint n) = None

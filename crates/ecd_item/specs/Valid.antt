@@ -12,6 +12,7 @@ use Rattle.ecd_item.specs.Encoding.{encoding, encodings, pair_encodings}
 abbrev pub key_of : List ℕ × List ℕ → List ℕ
 key_of pair = pair.0
 
+-- A key stands before the first of the others, where there is one.
 abbrev pub IsBeforeFirst : Order → List ℕ → List (List ℕ) → Type 0
 IsBeforeFirst order key [] = Unit {0}
 IsBeforeFirst order key (next ∷ keys) = IsBefore order key next
@@ -21,7 +22,7 @@ abbrev pub Ascend : Order → List (List ℕ) → Type 0
 Ascend order [] = Unit {0}
 Ascend order (key ∷ keys) = IsBeforeFirst order key keys × Ascend order keys
 
--- Arguments and lengths have 64 bits, a text is UTF-8 (section 3.1), the keys of a map ascend strictly in the order (sections 4.2.1 and 5.6),
+-- Arguments and lengths have 64 bits (section 3), a text is UTF-8 (section 3.1), the keys of a map ascend strictly in the order (sections 4.2.1 and 5.6),
 -- and a simple value is 0 to 23 or 32 to 255 (section 3.3).
 unfoldable mutual
   pub IsValid : Order → Item → Type 0
@@ -42,6 +43,7 @@ unfoldable mutual
   ArePairsValid order end_of-Pair = Unit {0}
   ArePairsValid order (more_of-Pair key value rest) = IsValid order key × IsValid order value × ArePairsValid order rest
 
+-- Both parts of a pair are valid.
 abbrev pub IsValidPair : Order → Pair → Type 0
 IsValidPair order pair = IsValid order pair.key × IsValid order pair.value
 
@@ -73,5 +75,6 @@ unfoldable mutual
 abbrev pub IsWhole : Order → ℕ → Item → Type 0
 IsWhole order deepest item = IsValid order item × (depth item ≤ deepest)
 
+-- Both parts of a pair are.
 abbrev pub IsWholePair : Order → ℕ → Pair → Type 0
 IsWholePair order deepest pair = IsWhole order deepest pair.key × IsWhole order deepest pair.value

@@ -18,6 +18,7 @@ use std::cmp::Ordering;
 /// The most bytes that a head has.
 const MOST_HEAD_BYTES: usize = 9;
 
+/// Which of two heads comes first.
 fn compare_heads(one: Head, other: Head) -> Ordering
     requires one_writable { IsWritable one.major one.arg }
     requires other_writable { IsWritable other.major other.arg }

@@ -23,6 +23,7 @@ use std::alloc::Global;
 use std::cmp::Ordering;
 use std::str;
 
+/// A head's fault as a cause.
 fn cause_of(fault: HeadFault) -> Cause
     ensures { result ≡ cause_meant fault }
 {
@@ -36,6 +37,7 @@ fn cause_of(fault: HeadFault) -> Cause
     }
 }
 
+/// The head at a place, and the place behind it.
 fn head_of(bytes: &[u8], at: usize) -> Result<(Head, usize), Stop>
     requires { at ≤ length bytes.now }
     ensures gives { Gives (seen bytes.now) result (headed at (drop at bytes.now) (head_at (drop at bytes.now))) }
@@ -52,6 +54,7 @@ fn head_of(bytes: &[u8], at: usize) -> Result<(Head, usize), Stop>
     }
 }
 
+/// The bytes of a string whose head stands at `place`, and the place behind them.
 fn string_of(
     alloc: Global,
     bytes: &[u8],
@@ -74,12 +77,14 @@ fn string_of(
     Ok((List::from_slice(alloc, &bytes[at..end])?, end))
 }
 
+/// Whether the bytes are UTF-8.
 pub(crate) fn is_text(bytes: &[u8]) -> bool
     ensures { result ≡ is_utf8 bytes.now }
 {
     str::from_utf8(bytes).is_ok()
 }
 
+/// The bytes of a text whose head stands at `place`, and the place behind them.
 fn text_of(
     alloc: Global,
     bytes: &[u8],
@@ -114,6 +119,7 @@ fn item_of(alloc: Global, bytes: &[u8], at: usize, depth: u8) -> Result<(Item, u
     behind_of(alloc, bytes, at, head, behind, depth)
 }
 
+/// What stands behind a head.
 #[cycle(reading)]
 #[tactic(auto, unfolding(crate::specs::Reading::behind))]
 fn behind_of(
@@ -179,6 +185,7 @@ fn parts_of(
     Ok((Item::Tag(head.arg, Boxed::new(alloc, inner)?), end))
 }
 
+/// The items of an array.
 #[cycle(reading)]
 fn items_of(
     alloc: Global,
@@ -202,6 +209,7 @@ fn items_of(
     Ok((items, here))
 }
 
+/// The pairs of a map, with keys that ascend.
 #[cycle(reading)]
 fn pairs_of(
     alloc: Global,
@@ -235,6 +243,7 @@ fn pairs_of(
     Ok((pairs, here))
 }
 
+/// Whether a key may stand behind the last one.
 fn may_follow(last: Option<&[u8]>, key: &[u8]) -> bool
     ensures { result ≡ is_above Bytewise (option_copied last.entry) key.now }
 {

@@ -11,8 +11,10 @@ ghost use Rattle.ecd_item.specs.Writing.{Emits};
 use crate::item::{Item, Pair};
 use ecd_head::{Head, NoRoom, put, write_head};
 
+/// The length that stands for every longer one: 2^63.
 const LIMIT: u64 = 0x8000_0000_0000_0000;
 
+/// The sum, or the limit where that is less.
 fn add(a: u64, b: u64) -> u64
     requires a_capped { a ≤ 2 ^ 63 }
     requires b_capped { b ≤ 2 ^ 63 }
@@ -21,6 +23,7 @@ fn add(a: u64, b: u64) -> u64
     if a > LIMIT - b { LIMIT } else { a + b }
 }
 
+/// How many bytes a head with this argument has.
 #[tactic(auto, unfolding(ecd_head::specs::Head::head_bytes))]
 fn head_length(arg: u64) -> u64
     ensures sized { (major : ℕ) → result ≡ length (head_bytes major arg) }
@@ -39,6 +42,7 @@ fn head_length(arg: u64) -> u64
     }
 }
 
+/// The length of a string's encoding, or the limit.
 fn string_length(bytes: &[u8]) -> u64
     ensures { (major : ℕ) → result ≡ min (length (head_bytes major (length bytes.now)) + length bytes.now) (2 ^ 63) }
 {
@@ -54,6 +58,7 @@ pub fn length_of(item: &Item) -> u64
     measure(item)
 }
 
+/// The length of an item's encoding, or the limit.
 #[cycle(measuring)]
 #[tactic(auto, using(crate::proofs::Layers::layers))]
 fn measure(item: &Item) -> u64
@@ -100,6 +105,7 @@ fn pairs_length(pairs: &[Pair]) -> u64
     total
 }
 
+/// Writes a head for which there is room.
 pub(crate) fn emit_head(major: u8, arg: u64, into: &mut [u8], at: usize) -> usize
     requires writable { IsWritable major arg }
     requires room { at + length (head_bytes major arg) ≤ length into.old }
@@ -111,6 +117,7 @@ pub(crate) fn emit_head(major: u8, arg: u64, into: &mut [u8], at: usize) -> usiz
     }
 }
 
+/// Writes a string for which there is room.
 fn emit_string(major: u8, bytes: &[u8], into: &mut [u8], at: usize) -> usize
     requires major { major < 7 }
     requires room { at + length (head_bytes major (length bytes.now) ++ bytes.now) ≤ length into.old }
@@ -123,6 +130,7 @@ fn emit_string(major: u8, bytes: &[u8], into: &mut [u8], at: usize) -> usize
     }
 }
 
+/// Writes an item for which there is room.
 #[cycle(writing)]
 #[tactic(auto, using(crate::proofs::Layers::layers))]
 fn emit(item: &Item, into: &mut [u8], at: usize) -> usize
