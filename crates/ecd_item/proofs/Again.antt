@@ -1,5 +1,5 @@
 -- What was written is read again.
-use Rattle.std.proofs.Common.{◌≡◌, ℕ, zero, suc, ◌+◌, ◌-◌, ◌<◌, ◌≤◌, ◌^◌, true, List, [], ◌∷◌, ◌++◌, length, take, map, Option, Some, None, Result, Ok, refl, ap, sym, ◌∙◌, arith, append_assoc, inl, inr}
+use Rattle.std.proofs.Common.{◌≡◌, ℕ, zero, suc, ◌+◌, ◌-◌, ◌<◌, ◌≤◌, ◌^◌, true, List, [], ◌∷◌, ◌++◌, length, take, map, Option, Some, None, refl, ap, sym, ◌∙◌, arith, append_assoc, inl, inr}
 use Rattle.std.specs.List.{AllByRecursion}
 use Rattle.std.specs.Prelude.{max}
 use Rattle.std.proofs.lemmas.Str.{is_utf8-from_IsUtf8}
@@ -7,7 +7,6 @@ use Rattle.std.proofs.lemmas.List.{take_at, drop_at, length-append, append-nil}
 use Rattle.std.proofs.lemmas.Bool.{le-ltb}
 use Rattle.ecd_head.specs.Head.{IsWritable, head_bytes}
 use Rattle.ecd_head.proofs.Heads.{head_again}
-use Rattle.ecd_item.specs.declared.fault.Fault.{Fault}
 use Rattle.ecd_item.specs.declared.item.Item.{Item}
 use Rattle.ecd_item.specs.declared.item.Item.TheVariants.{Uint, Nint, Bytes, Text, Array, Map, Tag, Simple}
 use Rattle.ecd_item.specs.declared.item.Pair.{Pair}
@@ -15,21 +14,16 @@ use Rattle.ecd_keyorder.specs.declared.Order.{Order}
 use Rattle.ecd_item.specs.Encoding.{encoding, key_bytes, joined}
 use Rattle.ecd_item.specs.Valid.{IsValid, depth, Ascend}
 use Rattle.ecd_item.specs.Reading.{Reader, Taken, taken, layer, behind, parts, item_at, many, pairs, string_at, is_above, inner_of}
+use Rattle.ecd_item.proofs.Results.{ok_is}
 use Rattle.ecd_item.proofs.Layers.{encoding-Array, encoding-Map, encoding-Tag, pair_depth, greatest, depth-Array, depth-Map, depth-Tag, valid_Array, valid_Map, valid_Tag, item_ind}
 use Rattle.ecd_item.specs.Encoding.{pair_bytes}
 use Rattle.ecd_item.specs.Valid.{IsValidPair}
 
-abbrev pub fine : {A : Type 0} → A → Result A Fault
-fine x = Ok x
-
-pub ok_is : {A : Type 0} (x y : A) → fine x ≡ fine y → x ≡ y
-ok_is x y e = cc
+-- the reader reads what stands for the value, and stops behind it
+abbrev pub Rereads : {A : Type 0} → Reader A → (A → List ℕ) → A → Type 0
+Rereads {A} read text x = (at : ℕ) (rest : List ℕ) → read at (text x ++ rest) ≡ taken x (at + length (text x)) rest
 
 module _ (order : Order) where
-  -- the reader reads what stands for the value, and stops behind it
-  abbrev pub Rereads : {A : Type 0} → Reader A → (A → List ℕ) → A → Type 0
-  Rereads {A} read text x = (at : ℕ) (rest : List ℕ) → read at (text x ++ rest) ≡ taken x (at + length (text x)) rest
-
   pub item_at-layer : (d at : ℕ) (bytes : List ℕ) → item_at order d at bytes ≡ layer order (inner_of order d) at bytes
   unfolding item_at inner_of
   item_at-layer zero at bytes = refl

@@ -19,22 +19,14 @@ use Rattle.ecd_item.specs.Valid.{IsWhole}
 use Rattle.ecd_item.specs.FirstFault.{IsFirstFault, TellsFirstFault, Answers, number_of}
 use Rattle.ecd_item.specs.Laws.{HasOneEncoding, EncodesOneItem, HasNoProperPrefix, BeginsWithOneItem, HasOneFirstFault, EncodingHasNoFault, IsItemOrFault, EveryBytesHaveOne}
 use Rattle.ecd_item.specs.Reading.{Taken, taken, item_at, Gives, seen, told_result}
-use Rattle.ecd_item.proofs.Again.{ok_is, fine, item_again, one_item}
+use Rattle.ecd_item.proofs.Results.{ok_is, failed, same_fault, not_both}
+use Rattle.ecd_item.proofs.Again.{item_again, one_item}
 use Rattle.ecd_item.proofs.Takes.{item_takes}
 use Rattle.ecd_item.proofs.Refusing.{item_stops}
 use Rattle.ecd_item.proofs.Naming.{first_named}
 
 abbrev pub told : Result (Item × ℕ) Stop → Result (Item × ℕ) ItemFault
 told r = told_result r
-
-abbrev failed : Fault → Result (Taken Item) Fault
-failed fault = Err fault
-
-same_fault : (g k : Fault) → failed g ≡ failed k → g ≡ k
-same_fault g k e = cc
-
-not_both : {A : Type 0} (x : Taken Item) (g : Fault) → fine x ≡ failed g → A
-not_both x g e = absurd cc
 
 module _ (order : Order) (d at : ℕ) (bytes : List ℕ) where
   abbrev Reads : Result (Item × ℕ) Stop → Type 0
@@ -62,10 +54,10 @@ module _ (order : Order) (d at : ℕ) (bytes : List ℕ) where
   is_fault (Err stop.Memory) fits given = tt
   is_fault (Err (stop.Fault k)) fits given = (k.cause, refl, item_stops order d at (drop at bytes) k (IsBytes-drop at bytes fits) given)
 
-  refused_by : (r : Result (Item × ℕ) Stop) (g : Fault) → Gives (seen bytes) r (failed g) → Answers (told r) (Err (f.At g.place (number_of g.cause)))
+  refused_by : (r : Result (Item × ℕ) Stop) (g : Fault) → Gives (seen bytes) r (failed {A = Taken Item} g) → Answers (told r) (Err (f.At g.place (number_of g.cause)))
   refused_by (Ok x) g e = not_both (seen bytes x) g (sym e)
   refused_by (Err stop.Memory) g e = inr refl
-  refused_by (Err (stop.Fault k)) g e = inl (ap (λ (h : Fault). Err (f.At h.place (number_of h.cause))) (sym (same_fault g k e)))
+  refused_by (Err (stop.Fault k)) g e = inl (ap (λ (h : Fault). Err (f.At h.place (number_of h.cause))) (sym (same_fault {A = Taken Item} g k e)))
 
   pub is_refused : (r : Result (Item × ℕ) Stop) (place : ℕ) (cause : Cause) → Reads r → IsFirstFault order d at (drop at bytes) place cause → Answers (told r) (Err (f.At place (number_of cause)))
   is_refused r place cause given s = refused_by r (record { place = place; cause = cause }) (subst (Gives (seen bytes) r) (first_named order d at (drop at bytes) place cause s) given)
@@ -87,7 +79,7 @@ has_no_proper_prefix order item other bytes more p q =
 
 pub has_one_first_fault : HasOneFirstFault
 has_one_first_fault order d at bytes place other cause another s t =
-    let e = same_fault (record { place = place; cause = cause }) (record { place = other; cause = another }) (sym (first_named order d at bytes place cause s) ∙ first_named order d at bytes other another t) in
+    let e = same_fault {A = Taken Item} (record { place = place; cause = cause }) (record { place = other; cause = another }) (sym (first_named order d at bytes place cause s) ∙ first_named order d at bytes other another t) in
     (ap (λ (g : Fault). g.place) e, ap (λ (g : Fault). g.cause) e)
 
 pub encoding_has_no_fault : EncodingHasNoFault

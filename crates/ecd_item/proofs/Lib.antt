@@ -1,4 +1,5 @@
 pub mod Layers
+pub mod Results
 pub mod Again
 pub mod Loops
 pub mod Takes

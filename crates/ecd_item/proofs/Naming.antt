@@ -12,8 +12,6 @@ use Rattle.ecd_head.specs.Fault.{head_fault}
 use Rattle.ecd_head.proofs.Heads.{fault_read}
 use Rattle.ecd_keyorder.specs.declared.Order.{Order}
 use Rattle.ecd_keyorder.specs.Order.{comparison}
-use Rattle.std.specs.declared.cmp.Ordering.{Ordering}
-use Rattle.std.specs.declared.cmp.Ordering.TheVariants.{Less, Equal, Greater}
 use Rattle.ecd_item.specs.declared.fault.Fault.{Fault}
 use Rattle.ecd_item.specs.declared.fault.Cause.{Cause}
 use Rattle.ecd_item.specs.declared.fault.Cause.TheVariants as c
@@ -21,17 +19,11 @@ use Rattle.ecd_item.specs.declared.item.Item.{Item}
 use Rattle.ecd_item.specs.declared.item.Pair.{Pair}
 use Rattle.ecd_item.specs.Encoding.{encoding, key_bytes, pair_bytes, joined}
 use Rattle.ecd_item.specs.Valid.{IsWhole, IsWholePair, Ascend}
-use Rattle.ecd_item.specs.Reading.{Reader, Taken, ◌>>=◌, taken, refused, layer, behind, parts, item_at, inner_of, many, pairs, is_above, is_less, cause_of}
+use Rattle.ecd_item.specs.Reading.{Reader, Taken, ◌>>=◌, taken, refused, layer, behind, parts, item_at, inner_of, many, pairs, is_above, cause_of}
 use Rattle.ecd_item.specs.FirstFault.{Step, InTag, InArray, AtKey, AtValue, step_bytes, IsOpen, AreOpen, steps_bytes, last_of, key_before_in, key_before, IsOutOfOrder, HasCause, IsFirstFault}
-use Rattle.ecd_item.proofs.Again.{item_at-layer, layer_again, item_again, atom, string_again, follows, follows-Ascend, none_above}
+use Rattle.ecd_item.proofs.Results.{less_true, less_false}
+use Rattle.ecd_item.proofs.Again.{Rereads, item_at-layer, layer_again, item_again, atom, string_again, follows, follows-Ascend, none_above}
 use Rattle.ecd_item.proofs.Loops.{with_front}
-
-abbrev pub failed : {A : Type 0} → Fault → Result A Fault
-failed f = Err f
-
--- the reader reads what stands for the value, and stops behind it
-abbrev pub Rereads : {A : Type 0} → Reader A → (A → List ℕ) → A → Type 0
-Rereads {A} read text x = (at : ℕ) (rest : List ℕ) → read at (text x ++ rest) ≡ taken x (at + length (text x)) rest
 
 front_err : {A : Type 0} (front : List A) (r : Result (Taken (List A)) Fault) (f : Fault) → r ≡ Err f → with_front front r ≡ Err f
 front_err front (Ok x) f e = absurd cc
@@ -44,10 +36,6 @@ front_one x front (Err g) = refl
 no_front : {A : Type 0} (r : Result (Taken (List A)) Fault) → with_front [] r ≡ r
 no_front (Ok x) = refl
 no_front (Err f) = refl
-
-bind_fails : {A B : Type 0} (r : Result A Fault) (k : A → Result B Fault) (f : Fault) → r ≡ Err f → (r >>= k) ≡ Err f
-bind_fails (Ok x) k f e = absurd cc
-bind_fails (Err g) k f e = cc
 
 pub many_front : {A : Type 0} (read : Reader A) (text : A → List ℕ) (xs : List A) → AllByRecursion (Rereads read text) xs → (n k at : ℕ) (rest : List ℕ) → k ≡ length xs + n
     → many read k at (joined (map text xs) ++ rest) ≡ with_front xs (many read n (at + length (joined (map text xs))) rest)
@@ -65,14 +53,6 @@ many_front {A} read text (x ∷ xs) h n k at rest e =
 bool_false : (b : Bool) → (b ≡ true → ⊥) → b ≡ false
 bool_false true h = absurd (h refl)
 bool_false false h = refl
-
-less_false : (o : Ordering) → (o ≡ Less → ⊥) → is_less o ≡ false
-less_false Less h = absurd (h refl)
-less_false Equal h = refl
-less_false Greater h = refl
-
-less_true : (o : Ordering) → o ≡ Less → is_less o ≡ true
-less_true o e = ap is_less e
 
 last_after : Option (List ℕ) → List Pair → Option (List ℕ)
 last_after last [] = last

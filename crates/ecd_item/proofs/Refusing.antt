@@ -1,5 +1,5 @@
 -- Where reading stops, a first fault stands.
-use Rattle.std.proofs.Common.{◌≡◌, ℕ, zero, suc, ◌+◌, ◌-◌, ◌<◌, ◌≤◌, ◌^◌, ◌⊎◌, Bool, true, false, cond, eqb, ltb, List, [], ◌∷◌, ◌++◌, length, take, drop, map, Option, Some, None, Result, Ok, Err, refl, ap, sym, ◌∙◌, subst, arith, append_assoc, inl, inr}
+use Rattle.std.proofs.Common.{◌≡◌, ℕ, zero, suc, ◌+◌, ◌-◌, ◌<◌, ◌≤◌, ◌^◌, ◌⊎◌, true, false, cond, eqb, ltb, List, [], ◌∷◌, ◌++◌, length, take, drop, map, Option, Some, None, Result, Ok, Err, refl, ap, sym, ◌∙◌, subst, arith, append_assoc, inl, inr}
 use Rattle.std.specs.List.{AllByRecursion}
 use Rattle.std.specs.Str.{is_utf8}
 use Rattle.std.proofs.lemmas.Str.{is_utf8-from_IsUtf8}
@@ -13,8 +13,6 @@ use Rattle.ecd_head.specs.Fault.{head_at, head_fault}
 use Rattle.ecd_head.proofs.Heads.{head_takes, fault_read, IsBytes, IsBytes-drop}
 use Rattle.ecd_keyorder.specs.declared.Order.{Order}
 use Rattle.ecd_keyorder.specs.Order.{comparison, IsBefore}
-use Rattle.std.specs.declared.cmp.Ordering.{Ordering}
-use Rattle.std.specs.declared.cmp.Ordering.TheVariants.{Less, Equal, Greater}
 use Rattle.ecd_item.specs.declared.fault.Fault.{Fault}
 use Rattle.ecd_item.specs.declared.fault.Cause.{Cause}
 use Rattle.ecd_item.specs.declared.fault.Cause.TheVariants as c
@@ -23,34 +21,12 @@ use Rattle.ecd_item.specs.declared.item.Item.TheVariants.{Uint, Nint, Bytes, Tex
 use Rattle.ecd_item.specs.declared.item.Pair.{Pair}
 use Rattle.ecd_item.specs.Encoding.{encoding, key_bytes, pair_bytes, joined}
 use Rattle.ecd_item.specs.Valid.{IsWhole, IsWholePair, Ascend}
-use Rattle.ecd_item.specs.Reading.{Taken, ◌>>=◌, taken, refused, headed, layer, behind, parts, item_at, inner_of, many, pairs, pair_of, string_at, text_at, made, is_above, is_less, cause_of}
+use Rattle.ecd_item.specs.Reading.{Taken, ◌>>=◌, taken, refused, headed, layer, behind, parts, item_at, inner_of, many, pairs, pair_of, string_at, text_at, is_above, cause_of}
 use Rattle.ecd_item.specs.FirstFault.{Step, InTag, InArray, AtKey, AtValue, step_bytes, IsOpen, steps_bytes, last_of, key_before_in, key_before, HasCause, IsFirstFault}
-use Rattle.ecd_item.proofs.Again.{ok_is, fine, item_at-layer}
+use Rattle.ecd_item.proofs.Results.{ok_is, not_both, refused_is, bind_err, made_err, chosen_ok, chosen_err, guard_ok, less_is, less_not}
+use Rattle.ecd_item.proofs.Again.{item_at-layer}
 use Rattle.ecd_item.proofs.Takes.{item_takes, key_is}
 use Rattle.ecd_item.proofs.Lengths.{joined-last}
-
-abbrev pub failed : {A : Type 0} → Fault → Result A Fault
-failed f = Err f
-
-err_is : (f g : Fault) → failed {A = ℕ} f ≡ failed g → f ≡ g
-err_is f g e = cc
-
--- ---- what failed
-
-bind_err : {A B : Type 0} (r : Result A Fault) (f : A → Result B Fault) (e : Fault) → (r >>= f) ≡ Err e → (r ≡ Err e) ⊎ ((x : A) × (r ≡ Ok x) × (f x ≡ Err e))
-bind_err (Ok x) f e h = inr (x, refl, h)
-bind_err (Err d) f e h = inl cc
-
-made_err : {A B : Type 0} (f : A → B) (r : Result (Taken A) Fault) (e : Fault) → made f r ≡ Err e → r ≡ Err e
-made_err f (Ok x) e h = absurd cc
-made_err f (Err d) e h = cc
-
-chosen_err : {A : Type 0} (b : Bool) (r s : Result A Fault) (e : Fault) → cond b r s ≡ Err e → ((b ≡ true) × (r ≡ Err e)) ⊎ ((b ≡ false) × (s ≡ Err e))
-chosen_err true r s e h = inl (refl, h)
-chosen_err false r s e h = inr (refl, h)
-
-taken_err : {A B : Type 0} (x : Taken A) (e : Fault) → failed e ≡ fine x → B
-taken_err x e h = absurd cc
 
 joined_push : {A : Type 0} (text : A → List ℕ) (xs : List A) (x : A) → joined (map text (xs ++ x ∷ [])) ≡ joined (map text xs) ++ text x
 joined_push text xs x = ap joined (map_push text xs x) ∙ joined-last (map text xs) (text x)
@@ -72,33 +48,16 @@ value_bytes head before key bytes rest e = rw e (simp append_assoc)
 value_long : (head before key : List ℕ) → length (head ++ (before ++ key)) ≡ length (head ++ before) + length key
 value_long head before key = omega (arith, length-append head (before ++ key), length-append before key, length-append head before)
 
-guard_ok : {A : Type 0} (b : Bool) (d : Fault) (r : Result A Fault) (y : A) → cond b r (Err d) ≡ Ok y → (b ≡ true) × (r ≡ Ok y)
-guard_ok true d r y e = (refl, e)
-guard_ok false d r y e = absurd cc
-
-refused_is : {A : Type 0} (at : ℕ) (cause : Cause) (f : Fault) → refused {A = A} at cause ≡ Err f → f ≡ record { place = at; cause = cause }
-refused_is at cause f e = cc
-
 pub last_push : (keys : List (List ℕ)) (k : List ℕ) → last_of (keys ++ k ∷ []) ≡ Some k
 last_push [] k = refl
 last_push (x ∷ []) k = refl
 last_push (x ∷ y ∷ ys) k = last_push (y ∷ ys) k
 
-less_is : (o : Ordering) → is_less o ≡ true → o ≡ Less
-less_is Less e = refl
-less_is Equal e = absurd cc
-less_is Greater e = absurd cc
-
-less_not : (o : Ordering) → is_less o ≡ false → o ≡ Less → ⊥
-less_not Less e f = cc
-less_not Equal e f = cc
-less_not Greater e f = cc
-
 string_fails : (place n at : ℕ) (bytes : List ℕ) (f : Fault) → string_at place n at bytes ≡ Err f → (f ≡ record { place = place; cause = c.ShortString }) × (length bytes < n)
 string_fails place n at bytes f e =
     elim (chosen_err (ltb (length bytes) n) (refused place c.ShortString) (taken (take n bytes) (at + n) (drop n bytes)) f e) [
       | inl g ↦ (refused_is place c.ShortString f g.1, ltb-true (length bytes) n g.0)
-      | inr g ↦ taken_err (record { value = take n bytes; at = at + n; rest = drop n bytes }) f (sym g.1)
+      | inr g ↦ not_both (record { value = take n bytes; at = at + n; rest = drop n bytes }) f g.1
     ]
 
 string_ok : (place n at : ℕ) (bytes : List ℕ) (s : Taken (List ℕ)) → string_at place n at bytes ≡ Ok s → (n ≤ length bytes) × (s.value ≡ take n bytes)
@@ -108,10 +67,6 @@ string_ok place n at bytes s e =
       | inr g ↦ (ltb-false (length bytes) n g.0, ap (λ (t : Taken (List ℕ)). t.value) (sym (ok_is (record { value = take n bytes; at = at + n; rest = drop n bytes }) s g.1)))
     ]
   where
-    chosen_ok : {A : Type 0} (b : Bool) (r s : Result A Fault) (y : A) → cond b r s ≡ Ok y → ((b ≡ true) × (r ≡ Ok y)) ⊎ ((b ≡ false) × (s ≡ Ok y))
-    chosen_ok true r s y e = inl (refl, e)
-    chosen_ok false r s y e = inr (refl, e)
-
     refused_ok : {A B : Type 0} (at : ℕ) (cause : Cause) (y : A) → refused {A = A} at cause ≡ Ok y → B
     refused_ok at cause y e = absurd cc
 
@@ -177,7 +132,7 @@ module _ (order : Order) where
         | inr w ↦
             let x = w.0 in
             let t = item_takes order d inner bytes w.0 fits w.1 in
-            let again : many (item_at order d) n w.0.at w.0.rest ≡ Err f = elim (bind_err (many (item_at order d) n w.0.at w.0.rest) (λ others. taken (w.0.value ∷ others.value) others.at others.rest) f w.2) [ inl a ↦ a | inr v ↦ taken_err (record { value = w.0.value ∷ v.0.value; at = v.0.at; rest = v.0.rest }) f (sym v.2) ] in
+            let again : many (item_at order d) n w.0.at w.0.rest ≡ Err f = elim (bind_err (many (item_at order d) n w.0.at w.0.rest) (λ others. taken (w.0.value ∷ others.value) others.at others.rest) f w.2) [ inl a ↦ a | inr v ↦ not_both (record { value = w.0.value ∷ v.0.value; at = v.0.at; rest = v.0.rest }) f v.2 ] in
             subst (λ (b : List ℕ). Stops (suc d) at b f) (sym (pushed_bytes encoding (head_bytes 4 count) before w.0.value bytes w.0.rest t.whole))
             (array_more d count n at w.0.at (before ++ w.0.value ∷ []) w.0.rest f ih t.rest_fits (omega (arith, length-append before (w.0.value ∷ []))) small (all_push (IsWhole order d) before w.0.value all t.holds)
             (omega (arith, t.place, place, pushed_long encoding (head_bytes 4 count) before w.0.value)) again)
@@ -238,7 +193,7 @@ module _ (order : Order) where
                   let g = guard_ok (is_above order last (take (w.0.at - inner) bytes)) (record { place = inner; cause = c.KeyOrder }) (item_at order d w.0.at w.0.rest) v.0 v.1 in
                   let above : is_above order (last_of (map key_bytes before)) (encoding w.0.value) ≡ true = rw (here, ← kb) g.0 in
                   let m = item_takes order d w.0.at w.0.rest v.0 k.rest_fits g.1 in
-                  let again : pairs order (item_at order d) (Some (take (w.0.at - inner) bytes)) n v.0.at v.0.rest ≡ Err f = elim (bind_err (pairs order (item_at order d) (Some (take (w.0.at - inner) bytes)) n v.0.at v.0.rest) (λ others. taken (pair_of w.0.value v.0.value ∷ others.value) others.at others.rest) f v.2) [ inl a ↦ a | inr u ↦ taken_err (record { value = pair_of w.0.value v.0.value ∷ u.0.value; at = u.0.at; rest = u.0.rest }) f (sym u.2) ] in
+                  let again : pairs order (item_at order d) (Some (take (w.0.at - inner) bytes)) n v.0.at v.0.rest ≡ Err f = elim (bind_err (pairs order (item_at order d) (Some (take (w.0.at - inner) bytes)) n v.0.at v.0.rest) (λ others. taken (pair_of w.0.value v.0.value ∷ others.value) others.at others.rest) f v.2) [ inl a ↦ a | inr u ↦ not_both (record { value = pair_of w.0.value v.0.value ∷ u.0.value; at = u.0.at; rest = u.0.rest }) f u.2 ] in
                   let both : bytes ≡ pair_bytes (pair_of w.0.value v.0.value) ++ v.0.rest = k.whole ∙ (ap (λ (t : List ℕ). encoding w.0.value ++ t) m.whole ∙ sym (append_assoc (encoding w.0.value) (encoding v.0.value) v.0.rest)) in
                   subst (λ (b : List ℕ). Stops (suc d) at b f) (sym (pushed_bytes pair_bytes (head_bytes 5 count) before (pair_of w.0.value v.0.value) bytes v.0.rest both))
                   (pair_more d count n at v.0.at (before ++ pair_of w.0.value v.0.value ∷ []) (Some (take (w.0.at - inner) bytes)) v.0.rest f ih m.rest_fits (omega (arith, length-append before (pair_of w.0.value v.0.value ∷ []))) small
@@ -294,7 +249,7 @@ module _ (order : Order) where
             let s = string_ok place n at bytes w.0 w.1 in
             let len : length (take n bytes) ≡ n = omega (arith, length-take n bytes, s.0) in
             elim (chosen_err (is_utf8 w.0.value) (taken w.0.value w.0.at w.0.rest) (refused place c.BadUtf8) f w.2) [
-              | inl g ↦ taken_err (record { value = w.0.value; at = w.0.at; rest = w.0.rest }) f (sym g.1)
+              | inl g ↦ not_both (record { value = w.0.value; at = w.0.at; rest = w.0.rest }) f g.1
               | inr g ↦
                   stops_here d place (head_bytes 3 n ++ bytes) f c.BadUtf8 (refused_is place c.BadUtf8 f g.1)
                   (record {
@@ -314,15 +269,15 @@ module _ (order : Order) where
   unfolding behind
   behind_stops d place m a at bytes f inside w fits here e0 =
       elim (chosen_err (eqb m 0) _ _ f e0) [
-        | inl h ↦ taken_err (record { value = Uint a; at = at; rest = bytes }) f (sym h.1)
+        | inl h ↦ not_both (record { value = Uint a; at = at; rest = bytes }) f h.1
         | inr e1 ↦ elim (chosen_err (eqb m 1) _ _ f e1.1) [
-          | inl h ↦ taken_err (record { value = Nint a; at = at; rest = bytes }) f (sym h.1)
+          | inl h ↦ not_both (record { value = Nint a; at = at; rest = bytes }) f h.1
           | inr e2 ↦ elim (chosen_err (eqb m 2) _ _ f e2.1) [
             | inl h ↦ of_major d m 2 a place bytes f (eqb-true m 2 h.0) (string_stops d place 2 a at bytes f w.fits (inl refl) (made_err Bytes (string_at place a at bytes) f h.1))
             | inr e3 ↦ elim (chosen_err (eqb m 3) _ _ f e3.1) [
               | inl h ↦ of_major d m 3 a place bytes f (eqb-true m 3 h.0) (text_stops d place a at bytes f w.fits (made_err Text (text_at place a at bytes) f h.1))
               | inr e4 ↦ elim (chosen_err (eqb m 7) _ _ f e4.1) [
-                | inl h ↦ taken_err (record { value = Simple a; at = at; rest = bytes }) f (sym h.1)
+                | inl h ↦ not_both (record { value = Simple a; at = at; rest = bytes }) f h.1
                 | inr e5 ↦ part_stops d place m a at bytes f inside w.fits (left_majors m w.known e1.0 e2.0 e3.0 e4.0 e5.0) fits here e5.1
               ]
             ]

@@ -1,9 +1,7 @@
 -- What is read stands in the bytes.
-use Rattle.std.proofs.Common.{◌≡◌, ℕ, zero, suc, ◌+◌, ◌-◌, ◌<◌, ◌≤◌, ◌^◌, ◌⊎◌, Bool, true, false, cond, eqb, ltb, List, [], ◌∷◌, ◌++◌, length, take, drop, map, Option, Some, None, Result, Ok, Err, refl, ap, sym, ◌∙◌, subst, arith, append_assoc, inl, inr}
+use Rattle.std.proofs.Common.{◌≡◌, ℕ, zero, suc, ◌+◌, ◌-◌, ◌<◌, ◌≤◌, ◌^◌, ◌⊎◌, true, false, cond, eqb, ltb, List, [], ◌∷◌, ◌++◌, length, take, drop, map, Option, Some, None, Result, Ok, Err, refl, ap, sym, ◌∙◌, subst, arith, append_assoc, inl, inr}
 use Rattle.std.specs.List.{AllByRecursion}
 use Rattle.std.specs.Str.{IsUtf8, is_utf8}
-use Rattle.std.specs.declared.cmp.Ordering.{Ordering}
-use Rattle.std.specs.declared.cmp.Ordering.TheVariants.{Less, Equal, Greater}
 use Rattle.std.proofs.lemmas.Str.{IsUtf8-from_is_utf8}
 use Rattle.std.proofs.lemmas.List.{take_at, length-append, append-nil, take-append-drop, length-take}
 use Rattle.std.proofs.lemmas.Bool.{ltb-false, eqb-true, eqb-false}
@@ -21,11 +19,12 @@ use Rattle.ecd_keyorder.specs.declared.Order.{Order}
 use Rattle.ecd_keyorder.specs.Order.{comparison}
 use Rattle.ecd_item.specs.Encoding.{encoding, key_bytes, joined}
 use Rattle.ecd_item.specs.Valid.{IsValid, depth, Ascend}
-use Rattle.ecd_item.specs.Reading.{Reader, Taken, ◌>>=◌, taken, refused, headed, layer, behind, parts, item_at, inner_of, many, pairs, pair_of, string_at, text_at, made, is_above, is_less}
+use Rattle.ecd_item.specs.Reading.{Reader, Taken, ◌>>=◌, taken, refused, headed, layer, behind, parts, item_at, inner_of, many, pairs, pair_of, string_at, text_at, made, is_above}
 use Rattle.ecd_item.proofs.Layers.{encoding-Array, encoding-Map, encoding-Tag, pair_depth, greatest, depth-Array, depth-Map, depth-Tag, Array_valid, Map_valid, Tag_valid}
 use Rattle.ecd_item.specs.Encoding.{pair_bytes}
 use Rattle.ecd_item.specs.Valid.{IsValidPair}
-use Rattle.ecd_item.proofs.Again.{ok_is, follows}
+use Rattle.ecd_item.proofs.Results.{ok_is, bind_ok, guard_ok, guard_not, chosen_ok, less_is}
+use Rattle.ecd_item.proofs.Again.{follows}
 
 module _ (order : Order) where
   -- what was taken is what stands for the value, which has P
@@ -37,22 +36,6 @@ module _ (order : Order) where
 
   abbrev pub Takes : {A : Type 0} → (A → List ℕ) → (A → Type 0) → Reader A → Type 0
   Takes {A} text P read = (at : ℕ) (bytes : List ℕ) (x : Taken A) → IsBytes bytes → read at bytes ≡ Ok x → Took text P at bytes x
-
-  bind_ok : {A B : Type 0} (r : Result A Fault) (f : A → Result B Fault) (y : B) → (r >>= f) ≡ Ok y → (x : A) × (r ≡ Ok x) × (f x ≡ Ok y)
-  bind_ok (Ok x) f y e = (x, refl, e)
-  bind_ok (Err d) f y e = absurd cc
-
-  guard_ok : {A : Type 0} (b : Bool) (d : Fault) (r : Result A Fault) (y : A) → cond b r (Err d) ≡ Ok y → (b ≡ true) × (r ≡ Ok y)
-  guard_ok true d r y e = (refl, e)
-  guard_ok false d r y e = absurd cc
-
-  guard_not : {A : Type 0} (b : Bool) (d : Fault) (r : Result A Fault) (y : A) → cond b (Err d) r ≡ Ok y → (b ≡ false) × (r ≡ Ok y)
-  guard_not true d r y e = absurd cc
-  guard_not false d r y e = (refl, e)
-
-  chosen : {A : Type 0} (b : Bool) (r s : Result A Fault) (y : A) → cond b r s ≡ Ok y → ((b ≡ true) × (r ≡ Ok y)) ⊎ ((b ≡ false) × (s ≡ Ok y))
-  chosen true r s y e = inl (refl, e)
-  chosen false r s y e = inr (refl, e)
 
   abbrev head_text : Head → List ℕ
   head_text h = head_bytes h.major h.arg
@@ -101,11 +84,6 @@ module _ (order : Order) where
       (record { whole = sym (take-append-drop n bytes); place = ap (λ (k : ℕ). at + k) (sym len); rest_fits = IsBytes-drop n bytes fits; holds = len })
 
   -- ---- pairs
-
-  less_is : (o : Ordering) → is_less o ≡ true → o ≡ Less
-  less_is Less e = refl
-  less_is Equal e = absurd cc
-  less_is Greater e = absurd cc
 
   Ascend-follows : (last : Option (List ℕ)) (keys : List (List ℕ)) → follows order last keys → Ascend order keys
   Ascend-follows last [] f = tt
@@ -239,15 +217,15 @@ module _ (order : Order) where
   behind_takes : (d place m a at : ℕ) (bytes : List ℕ) (x : Taken Item) → Inner d → IsWritable m a → IsBytes bytes → behind order (inner_of order d) place (record { major = m; arg = a }) at bytes ≡ Ok x → Behind (record { major = m; arg = a }) d at bytes x
   unfolding behind encoding IsValid depth
   behind_takes d place m a at bytes x inner w fits e0 =
-      elim (chosen (eqb m 0) _ _ x e0) [
+      elim (chosen_ok (eqb m 0) _ _ x e0) [
         | inl h ↦ of_major d m 0 a at bytes x (eqb-true m 0 h.0) (atom_behind 0 a d at bytes (Uint a) x fits h.1 refl w.fits (omega arith))
-        | inr e1 ↦ elim (chosen (eqb m 1) _ _ x e1.1) [
+        | inr e1 ↦ elim (chosen_ok (eqb m 1) _ _ x e1.1) [
           | inl h ↦ of_major d m 1 a at bytes x (eqb-true m 1 h.0) (atom_behind 1 a d at bytes (Nint a) x fits h.1 refl w.fits (omega arith))
-          | inr e2 ↦ elim (chosen (eqb m 2) _ _ x e2.1) [
+          | inr e2 ↦ elim (chosen_ok (eqb m 2) _ _ x e2.1) [
             | inl h ↦ of_major d m 2 a at bytes x (eqb-true m 2 h.0) (made_behind (λ bs. bs) (λ bs. length bs ≡ a) 2 a d at bytes Bytes (string_at place a at bytes) x (λ y f. string_takes place a at bytes y fits f) h.1 (λ bs p. bytes_law d a bs w.fits p))
-            | inr e3 ↦ elim (chosen (eqb m 3) _ _ x e3.1) [
+            | inr e3 ↦ elim (chosen_ok (eqb m 3) _ _ x e3.1) [
               | inl h ↦ of_major d m 3 a at bytes x (eqb-true m 3 h.0) (made_behind (λ bs. bs) (λ bs. (length bs ≡ a) × IsUtf8 bs) 3 a d at bytes Text (text_at place a at bytes) x (λ y f. text_takes place a at bytes y fits f) h.1 (λ bs p. text_law d a bs w.fits p))
-              | inr e4 ↦ elim (chosen (eqb m 7) _ _ x e4.1) [
+              | inr e4 ↦ elim (chosen_ok (eqb m 7) _ _ x e4.1) [
                 | inl h ↦ of_major d m 7 a at bytes x (eqb-true m 7 h.0) (atom_behind 7 a d at bytes (Simple a) x fits h.1 refl (w.simple (eqb-true m 7 h.0)) (omega arith))
                 | inr e5 ↦ parts_takes d place m a at bytes x inner w (left_majors m w.known e1.0 e2.0 e3.0 e4.0 e5.0) fits e5.1
               ]
