@@ -1,0 +1,6 @@
+use Rattle.ecd_item.proofs.Loops.{text_test}
+use Rattle.std.proofs.Common.{◌∙◌}
+use Rattle.ecd_item.proofs.read.is_text.Goals as goal
+
+pub returns : goal.returns
+returns c = c.is_ok.ensures.value ∙ text_test c.args.bytes.now _ _ c.from_utf8.result c.from_utf8.ensures.cases

@@ -1,0 +1,27 @@
+//! The order of the keys of a map in deterministic CBOR: RFC 8949, section 4.2.1.
+#![tactic(auto)]
+
+ghost use Rattle.std.specs.Prelude.{◌≡◌};
+ghost use Rattle.ecd_keyorder.specs.Order.{comparison};
+
+pub mod laws;
+#[cfg(test)]
+mod tests;
+
+use std::cmp::Ordering;
+
+/// An order of encodings, by which the keys of a map ascend.
+#[derive(Clone, Copy, Debug, PartialEq, Eq)]
+pub enum Order {
+    /// The bytewise lexicographic order (RFC 8949, section 4.2.1): an encoding that begins another comes before it.
+    Bytewise,
+}
+
+/// Which of two encodings comes first in the order. It takes no memory.
+pub fn compare(order: Order, a: &[u8], b: &[u8]) -> Ordering
+    ensures { result ≡ comparison order a.now b.now }
+{
+    match order {
+        Order::Bytewise => a.cmp(&b),
+    }
+}
