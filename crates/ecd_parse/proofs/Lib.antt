@@ -1,0 +1,4 @@
+pub mod Tokens
+pub mod Loops
+pub mod Counts
+pub mod Verdicts

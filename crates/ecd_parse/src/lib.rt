@@ -1,0 +1,16 @@
+//! The parser of CDDL schemas: from tokens to the tree that they spell (RFC 8610, Appendix B).
+#![tactic(auto)]
+
+mod brackets;
+mod cursor;
+mod fault;
+mod read;
+mod rules;
+mod schema;
+
+pub use ecd_syntax::{TokenList, Tree};
+pub use fault::ParseFault;
+pub use schema::parse;
+
+#[cfg(test)]
+mod tests;
