@@ -25,7 +25,8 @@ pub struct Head {
     pub arg: u64,
 }
 
-/// Why no head stands at a place. The number of each cause is its discriminant.
+/// Why no head stands at a place. The number of each cause is its discriminant. Of several the first that applies is
+/// told, in the order of the numbers, but that a float is told before all others.
 #[derive(Clone, Copy, Debug, PartialEq, Eq, Error)]
 pub enum HeadFault {
     /// No byte is left, or fewer than the first byte asks for (RFC 8949, section 3).
@@ -37,7 +38,7 @@ pub enum HeadFault {
     /// The additional information is 31: an indefinite length or a break (section 3.2).
     #[error("the length is indefinite")]
     Indefinite = 3,
-    /// A shorter head holds the argument (section 4.2.1).
+    /// A shorter head holds the argument, of a major type below 7 (section 4.2.1).
     #[error("the argument is not in its shortest form")]
     NotShortest = 4,
     /// A floating-point number (section 3.3).
@@ -157,6 +158,11 @@ fn head_placed(bytes: &[u8], at: usize) -> Result<(Head, usize), HeadFault>
 }
 
 /// The head that stands at a place, and the place behind it (RFC 8949, section 3). It takes no memory.
+///
+/// # Errors
+///
+/// The first `HeadFault` that applies: `Float` where major type 7 has a width of two, four or eight bytes, whatever
+/// follows, and else the one of the least number.
 pub fn read_head(bytes: &[u8], at: usize) -> Result<(Head, usize), HeadFault>
     requires { at ≤ length bytes.now }
 
@@ -173,6 +179,10 @@ pub fn read_head(bytes: &[u8], at: usize) -> Result<(Head, usize), HeadFault>
 }
 
 /// Copies the text into the bytes from a place on, where it fits, and answers the place behind it. It takes no memory.
+///
+/// # Errors
+///
+/// `NoRoom` exactly where the text is longer than the room from the place on; no byte is changed then.
 pub fn put(text: &[u8], into: &mut [u8], at: usize) -> Result<usize, NoRoom>
     requires { at ≤ length into.old }
     ensures ok { IfOk result (λ end. WritesAt into.old at text.now into.new × (end ≡ at + length text.now)) }
@@ -189,6 +199,10 @@ pub fn put(text: &[u8], into: &mut [u8], at: usize) -> Result<usize, NoRoom>
 
 /// Writes the shortest form of a head from a place on, where it fits, and answers the place behind it (RFC 8949, section 3).
 /// It takes no memory.
+///
+/// # Errors
+///
+/// `NoRoom` exactly where the head is longer than the room from the place on; no byte is changed then.
 #[tactic(auto, unfolding(crate::specs::Head::head_bytes))]
 pub fn write_head(head: Head, into: &mut [u8], at: usize) -> Result<usize, NoRoom>
     requires writable { IsWritable head.major head.arg }

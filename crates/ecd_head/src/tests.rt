@@ -76,7 +76,10 @@ fn a_head_is_written_in_its_shortest_form_or_not_at_all(rt: HostRuntime) -> Resu
 }
 
 #[test]
-fn faults_are_told_in_words(rt: HostRuntime) -> Result<(), Fail> {
+fn faults_have_numbers_and_words(rt: HostRuntime) -> Result<(), Fail> {
+    assert_eq!(rt; HeadFault::Short as u8, 1);
+    assert_eq!(rt; HeadFault::Float as u8, 5);
+    assert_eq!(rt; HeadFault::BadSimple as u8, 6);
     let text = format!(in rt.alloc(); "{}; {}", HeadFault::Float, NoRoom)?;
     assert_eq!(rt;
         text.as_str(),

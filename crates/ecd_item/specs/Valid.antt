@@ -22,6 +22,7 @@ abbrev pub Ascend : Order → List (List ℕ) → Type 0
 Ascend order [] = Unit {0}
 Ascend order (key ∷ keys) = IsBeforeFirst order key keys × Ascend order keys
 
+-- The elements of a byte string are bytes by the type of the code; no law needs it of a list.
 -- Arguments and lengths have 64 bits (section 3), a text is UTF-8 (section 3.1), the keys of a map ascend strictly in the order (sections 4.2.1 and 5.6),
 -- and a simple value is 0 to 23 or 32 to 255 (section 3.3).
 unfoldable mutual

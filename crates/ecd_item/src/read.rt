@@ -258,7 +258,7 @@ fn may_follow(last: Option<&[u8]>, key: &[u8]) -> bool
 /// # Errors
 ///
 /// `ItemFault::At` with the first head's place at which something stands against an item, and the number of its `Cause`:
-/// at a head 1 to 6; at a string's head 10 where it is longer than what is left, and else 7; 9 at the head that passes the depth;
+/// at a head 1 to 6; at a string's head 10 where it is longer than what is left, and else 7 where it is a text that is not UTF-8; 9 at the head that passes the depth;
 /// 8 at a whole key that is not above the one before it. Or `ItemFault::OutOfMemory`.
 pub fn read_item(
     alloc: Global,

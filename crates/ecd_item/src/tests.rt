@@ -3,7 +3,7 @@ use std::alloc::Global;
 use std::test::Fail;
 
 /// Bytes that hold no item within the depth, and the place and cause of the first fault.
-const FAULTS: [(&[u8], u8, usize, u8); 48] = [
+const FAULTS: [(&[u8], u8, usize, u8); 52] = [
     (&[], 0, 0, 1),
     (&[0x18], 0, 0, 1),
     (&[0x19, 0x03], 0, 0, 1),
@@ -54,6 +54,31 @@ const FAULTS: [(&[u8], u8, usize, u8); 48] = [
         1,
         6,
         9,
+    ),
+    // Counts and lengths that no memory holds.
+    (
+        &[0x9b, 0xff, 0xff, 0xff, 0xff, 0xff, 0xff, 0xff, 0xff],
+        1,
+        9,
+        1,
+    ),
+    (
+        &[0xbb, 0xff, 0xff, 0xff, 0xff, 0xff, 0xff, 0xff, 0xff],
+        1,
+        9,
+        1,
+    ),
+    (
+        &[0x5b, 0xff, 0xff, 0xff, 0xff, 0xff, 0xff, 0xff, 0xff, 0x00],
+        0,
+        0,
+        10,
+    ),
+    (
+        &[0x7b, 0xff, 0xff, 0xff, 0xff, 0xff, 0xff, 0xff, 0xff, 0x00],
+        0,
+        0,
+        10,
     ),
     (&[0x42, 0x00], 0, 0, 10),
     (&[0x63, 0xff], 0, 0, 10),
