@@ -1,0 +1,67 @@
+//! The measurements.
+
+use crate::sample::{array_bytes, counted_map};
+use anyhow::{Result, bail, ensure};
+use ecd_item::{is_valid, read_item, write_item};
+use std::alloc::Global;
+use std::rt::Clock;
+use std::time::{Duration, Instant};
+
+/// The integers of the array that is read and written. Its encoding has 16,000,005 bytes.
+const ARRAY_COUNT: u32 = 16_000_000;
+
+/// The pairs of the map that is checked.
+const MAP_COUNT: u32 = 100_000;
+
+/// Makes the measurement of that name, and prints its line.
+///
+/// # Errors
+///
+/// Where there is no such measurement, memory runs out, or the clock or the output fails.
+pub fn measure(alloc: Global, rt: &(impl Clock + Print), word: &str) -> Result<()> {
+    match word {
+        "read_item" => print_line(rt, word, time_read(alloc, rt)?, "2"),
+        "write_item" => print_line(rt, word, time_write(alloc, rt)?, "2"),
+        "is_valid" => print_line(rt, word, time_check(alloc, rt)?, "0.5"),
+        _ => bail!("no such measurement: {word}"),
+    }
+}
+
+/// How long the array's bytes take to be read.
+fn time_read(alloc: Global, rt: &impl Clock) -> Result<Duration> {
+    let bytes = array_bytes(alloc, ARRAY_COUNT)?;
+    let start = Instant::now(rt)?;
+    let (_item, end) = read_item(alloc, bytes.as_slice(), 0, 1)?;
+    let took = start.elapsed(rt)?;
+    ensure!(end == bytes.len(), "the array ends at byte {end}");
+    Ok(took)
+}
+
+/// How long the array takes to be written.
+fn time_write(alloc: Global, rt: &impl Clock) -> Result<Duration> {
+    let mut bytes = array_bytes(alloc, ARRAY_COUNT)?;
+    let (item, _end) = read_item(alloc, bytes.as_slice(), 0, 1)?;
+    let start = Instant::now(rt)?;
+    let end = write_item(&item, bytes.as_mut_slice(), 0)?;
+    let took = start.elapsed(rt)?;
+    ensure!(end == bytes.len(), "the array ends at byte {end}");
+    Ok(took)
+}
+
+/// How long the map takes to be checked.
+fn time_check(alloc: Global, rt: &impl Clock) -> Result<Duration> {
+    let item = counted_map(alloc, MAP_COUNT)?;
+    let start = Instant::now(rt)?;
+    let valid = is_valid(&item, 1);
+    let took = start.elapsed(rt)?;
+    ensure!(valid, "the map is not valid");
+    Ok(took)
+}
+
+/// Prints a measurement: its name, the seconds, the unit and the most seconds that are wanted.
+fn print_line(rt: &impl Print, name: &str, took: Duration, goal: &str) -> Result<()> {
+    let seconds = took.as_secs();
+    let millis = took.subsec_millis();
+    println!(rt; "{name} {seconds}.{millis:03} s {goal}")?;
+    Ok(())
+}

@@ -1,0 +1,42 @@
+//! The data items that are measured.
+
+ghost use Rattle.std.specs.Prelude.{◌≡◌, ◌≤◌, ◌^◌, IfOk};
+ghost use Rattle.ecd_bench.specs.Sample.{array_of_ones};
+
+use ecd_item::{Item, OutOfMemory, Pair, PairList};
+use std::alloc::{AllocError, Global};
+
+/// The first byte of an array's head with a count of four bytes (RFC 8949, section 3): major type 4, additional information 26.
+const ARRAY_HEAD: u8 = 0x9a;
+
+/// The encoding of an array of so many integers 1.
+///
+/// # Errors
+///
+/// `AllocError` where memory runs out.
+pub fn array_bytes(alloc: Global, count: u32) -> Result<Vec<u8>, AllocError>
+    requires { 2 ^ 16 ≤ count }
+    ensures { IfOk result (λ bytes. bytes.items ≡ array_of_ones count) }
+{
+    let mut bytes = Vec::new(alloc);
+    bytes.push(ARRAY_HEAD)?;
+    bytes.extend_from_slice(&count.to_be_bytes())?;
+    bytes.resize(5 + count as usize, 1)?;
+    Ok(bytes)
+}
+
+/// A map with so many pairs: the integers from 0 on, in order, each with the value 0.
+///
+/// # Errors
+///
+/// `OutOfMemory` where memory runs out.
+pub fn counted_map(alloc: Global, count: u32) -> Result<Item, OutOfMemory> {
+    let mut pairs = PairList::new(alloc);
+    for key in 0..count {
+        pairs.push(Pair {
+            key: Item::Uint(u64::from(key)),
+            value: Item::Uint(0),
+        })?;
+    }
+    Ok(Item::Map(pairs))
+}
