@@ -1,4 +1,4 @@
-//! The parser of CDDL schemas: from tokens to the tree that they spell (RFC 8610, Appendix B).
+//! The parser of CDDL schemas: from tokens to the tree that they spell (RFC 8610, Appendix B, in the profile of docs/SCHEMA.md).
 #![tactic(auto)]
 
 mod brackets;

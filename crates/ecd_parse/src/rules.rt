@@ -1,4 +1,4 @@
-//! Reading rules (RFC 8610, section 2.2.3).
+//! Reading rules (RFC 8610, section 3.1).
 
 ghost use Rattle.std.specs.Prelude.{◌≡◌, ◌<◌, ◌≤◌, length, drop, IfOk};
 ghost use Rattle.ecd_syntax.specs.Marks.{marks, name_of, assign_of};

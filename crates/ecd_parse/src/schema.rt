@@ -74,7 +74,7 @@ fn answer(alloc: Global, tokens: &[Token], end: u32) -> Result<Tree, ParseFault>
     }
 }
 
-/// The tree that the tokens spell (RFC 8610, Appendix B). `length` is the length of their text in bytes.
+/// The tree that the tokens spell (RFC 8610, Appendix B, in the profile of docs/SCHEMA.md). `length` is the length of their text in bytes.
 ///
 /// # Errors
 ///

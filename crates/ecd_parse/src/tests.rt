@@ -1,7 +1,7 @@
 //! Schemas whose tokens are single characters, and their trees as text: a place behind each letter.
 
 use super::*;
-use ecd_lex::{Bound, ByteList, Sign, Token, TokenKind};
+use ecd_lex::{Bound, ByteList, MOST_BYTES, Sign, Token, TokenKind, lex};
 use ecd_syntax::{
     Alts, Assign, Entry, Form, GroupTree, Key, Literal, Name, Occur, OpKind, Rule, Type1, Type2,
 };
@@ -376,6 +376,42 @@ fn arguments_end_the_memory_of_the_stack_behind_a_thousand_levels(
     for (count, fault) in [(999, None), (1000, Some(ParseFault::OutOfMemory))] {
         let tokens = nested(rt.alloc(), count, "b<", "c", ">")?;
         assert_eq!(rt; parse(rt.alloc(), &tokens, 9999).err(), fault, "{count}");
+    }
+    Ok(())
+}
+
+#[test]
+fn texts_are_read_or_refused_at_their_places(rt: HostRuntime) -> Result<(), Fail> {
+    for (text, place) in [
+        ("", Some(0)),
+        ("a = [int]", None),
+        ("a = [int", Some(8)),
+        ("a = b c = d", None),
+        ("a = b <int>", None),
+        ("a = #6(int)", None),
+        ("a = [#6(int, int)]", Some(11)),
+        ("a = [#6 (int, int)]", None),
+        ("a = #7(int)", Some(6)),
+    ] {
+        if text.len() > MOST_BYTES {
+            return Err("too long".into());
+        }
+        let tokens = lex(rt.alloc(), text).ok().ok_or("a fault of lexemes")?;
+        let fault = parse(rt.alloc(), &tokens, text.len() as u32).err();
+        assert_eq!(rt; fault, place.map(|place| ParseFault::Unexpected { place }), "{text}");
+    }
+    Ok(())
+}
+
+#[test]
+fn faults_are_told_in_words(rt: HostRuntime) -> Result<(), Fail> {
+    for (fault, words) in [
+        (ParseFault::Unexpected { place: 8 }, "unexpected token at byte 8"),
+        (ParseFault::TooNested { place: 52 }, "too many open brackets at byte 52"),
+        (ParseFault::OutOfMemory, "out of memory"),
+    ] {
+        let text = format!(in rt.alloc(); "{fault}")?;
+        assert_eq!(rt; text.as_str(), words);
     }
     Ok(())
 }

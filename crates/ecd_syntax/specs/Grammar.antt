@@ -1,4 +1,4 @@
--- The grammar of schemas (RFC 8610, Appendix B), as the lists of marks that spell each part of a tree.
+-- The grammar of schemas (RFC 8610, Appendix B, in the profile of docs/SCHEMA.md), as the lists of marks that spell each part of a tree.
 use Rattle.std.specs.Prelude.{◌≡◌, ℕ, zero, suc, Bool, true, false, List, [], ◌∷◌, ◌++◌, ◌⊎◌, Option, Some, None}
 use Rattle.ecd_lex.specs.declared.token.Token.{Token}
 use Rattle.ecd_lex.specs.declared.token.Sign.{Sign}

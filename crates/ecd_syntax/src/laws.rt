@@ -1,4 +1,4 @@
-//! Laws of the grammar (RFC 8610, Appendix B), about the definitions alone.
+//! Laws of the grammar of docs/SCHEMA.md (after RFC 8610, Appendix B), about the definitions alone.
 
 ghost use Rattle.std.specs.Prelude.{List, ℕ, ◌≡◌};
 ghost use Rattle.ecd_lex.specs.declared.token.Token.{Token};
@@ -27,7 +27,7 @@ pub fn one_nested_place()
     ensures within { (tokens : List Token) (p : ℕ) → TooNestedAt tokens p → IsWithin tokens → ⊥ }
 {}
 
-/// Tokens have a first unexpected token or a bracket that is one too many before it, and not both.
+/// Tokens have no more than one of the two: a first unexpected token, and a bracket that is one too many before it.
 pub fn one_fault()
     ensures { (tokens : List Token) (end p q : ℕ) → TooNestedAt tokens p → UnexpectedAt tokens end q → ⊥ }
 {}

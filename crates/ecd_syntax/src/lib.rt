@@ -1,4 +1,4 @@
-//! The syntax of a CDDL schema (RFC 8610, Appendix B): its tree, and which tokens spell a tree.
+//! The syntax of a CDDL schema (RFC 8610, Appendix B, in the profile of docs/SCHEMA.md): its tree, and which tokens spell it.
 #![tactic(auto)]
 
 pub mod laws;

@@ -11,7 +11,7 @@ pub struct Tree {
 /// Rules, in the order of the text.
 pub type RuleList = List<Rule>;
 
-/// A rule (RFC 8610, section 2.2.3): a name, its parameters, and what it stands for.
+/// A rule (RFC 8610, section 3.1): a name, its parameters, and what it stands for.
 #[derive(Drop)]
 pub struct Rule {
     /// The place of the name.
@@ -26,7 +26,7 @@ pub struct Rule {
     pub body: Entry,
 }
 
-/// The three assignments (RFC 8610, section 2.2.3 and section 3.9).
+/// The three assignments (RFC 8610, sections 3.1, 2.2.2 and 3.9).
 #[derive(Clone, Copy, PartialEq, Eq, Debug)]
 pub enum Assign {
     /// `=`
@@ -49,7 +49,7 @@ pub struct Name {
 /// Names, in the order of the text.
 pub type NameList = List<Name>;
 
-/// A group entry (RFC 8610, section 2.2.2).
+/// A group entry (RFC 8610, section 2.1 and `grpent` of Appendix B).
 #[cycle(syntax)]
 #[derive(Drop)]
 pub struct Entry {
