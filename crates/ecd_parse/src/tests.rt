@@ -398,7 +398,11 @@ fn texts_are_read_or_refused_at_their_places(rt: HostRuntime) -> Result<(), Fail
         }
         let tokens = lex(rt.alloc(), text).ok().ok_or("a fault of lexemes")?;
         let fault = parse(rt.alloc(), &tokens, text.len() as u32).err();
-        assert_eq!(rt; fault, place.map(|place| ParseFault::Unexpected { place }), "{text}");
+        assert_eq!(rt;
+            fault,
+            place.map(|place| ParseFault::Unexpected { place }),
+            "{text}"
+        );
     }
     Ok(())
 }
@@ -406,8 +410,14 @@ fn texts_are_read_or_refused_at_their_places(rt: HostRuntime) -> Result<(), Fail
 #[test]
 fn faults_are_told_in_words(rt: HostRuntime) -> Result<(), Fail> {
     for (fault, words) in [
-        (ParseFault::Unexpected { place: 8 }, "unexpected token at byte 8"),
-        (ParseFault::TooNested { place: 52 }, "too many open brackets at byte 52"),
+        (
+            ParseFault::Unexpected { place: 8 },
+            "unexpected token at byte 8",
+        ),
+        (
+            ParseFault::TooNested { place: 52 },
+            "too many open brackets at byte 52",
+        ),
         (ParseFault::OutOfMemory, "out of memory"),
     ] {
         let text = format!(in rt.alloc(); "{fault}")?;
