@@ -218,6 +218,14 @@ fn the_longest_text_is_read(rt: HostRuntime) -> Result<(), Fail> {
 }
 
 #[test]
+fn faults_are_told_in_words(rt: HostRuntime) -> Result<(), Fail> {
+    let fault = LexFault::At { place: 7, rule: 4 };
+    let text = format!(in rt.alloc(); "{fault}; {}", LexFault::OutOfMemory)?;
+    assert_eq!(rt; text.as_str(), "rule X4 at byte 7; out of memory");
+    Ok(())
+}
+
+#[test]
 fn columns_are_counted_in_bytes(rt: HostRuntime) {
     let text = "ab\n\u{e9}c\r\n\nd".as_bytes();
     assert_eq!(rt; text.len(), 10);

@@ -32,7 +32,7 @@ pub enum TokenKind {
     Text(ByteList),
     /// A byte string in plain quotes or in hexadecimal, as its bytes.
     Bytes(ByteList),
-    /// A data item by its major type (RFC 8610, section 3.6): `#`, `#6`, `#6.32`.
+    /// A data item by its major type (RFC 8610, sections 2.2.3 and 3.6): `#`, `#6`, `#6.32`.
     Hash { major: Option<u8>, arg: Bound },
     /// A control operator (RFC 8610, section 3.8), as the bytes of the name behind its dot.
     Control(ByteList),
