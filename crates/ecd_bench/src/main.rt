@@ -1,4 +1,5 @@
-//! Times the reading, writing and checking of a large data item (RFC 8949): the word after the program's name says which.
+//! Times the reading, writing and checking of a large data item (RFC 8949), and the reading of large schemas (RFC 8610): the
+//! word after the program's name says which.
 //! Without a word it does nothing.
 #![tactic(auto)]
 

@@ -1,8 +1,10 @@
 //! The measurements.
 
-use crate::sample::{array_bytes, counted_map};
+use crate::sample::{array_bytes, counted_map, repeated};
 use anyhow::{Result, bail, ensure};
 use ecd_item::{is_valid, read_item, write_item};
+use ecd_lex::{MOST_BYTES, lex};
+use ecd_parse::parse;
 use std::alloc::Global;
 use std::rt::Clock;
 use std::time::{Duration, Instant};
@@ -23,6 +25,19 @@ pub fn measure(alloc: Global, rt: &(impl Clock + Print), word: &str) -> Result<(
         "read_item" => print_line(rt, word, time_read(alloc, rt)?, "2"),
         "write_item" => print_line(rt, word, time_write(alloc, rt)?, "2"),
         "is_valid" => print_line(rt, word, time_check(alloc, rt)?, "0.5"),
+        "many_rules" => print_line(rt, word, time_schema(alloc, rt, "", "a = 5\n", "")?, "0.3"),
+        "long_choice" => print_line(
+            rt,
+            word,
+            time_schema(alloc, rt, "a = 5", " / 5", "")?,
+            "0.3",
+        ),
+        "long_string" => print_line(
+            rt,
+            word,
+            time_schema(alloc, rt, "a = \"", "x", "\"")?,
+            "0.3",
+        ),
         _ => bail!("no such measurement: {word}"),
     }
 }
@@ -55,6 +70,24 @@ fn time_check(alloc: Global, rt: &impl Clock) -> Result<Duration> {
     let valid = is_valid(&item, 1);
     let took = start.elapsed(rt)?;
     ensure!(valid, "the map is not valid");
+    Ok(took)
+}
+
+/// How long a schema's text takes to be read as a tree. The text is as long as a schema may be, but for a part of `piece`.
+fn time_schema(
+    alloc: Global,
+    rt: &impl Clock,
+    first: &str,
+    piece: &str,
+    last: &str,
+) -> Result<Duration> {
+    let text = repeated(alloc, first, piece, last)?;
+    ensure!(text.len() <= MOST_BYTES, "the schema is too long");
+    let start = Instant::now(rt)?;
+    let tokens = lex(alloc, text.as_str())?;
+    let tree = parse(alloc, &tokens, text.len() as u32)?;
+    let took = start.elapsed(rt)?;
+    ensure!(!tree.rules.is_empty(), "the schema has no rule");
     Ok(took)
 }
 

@@ -4,6 +4,7 @@ ghost use Rattle.std.specs.Prelude.{◌≡◌, ◌≤◌, ◌^◌, IfOk};
 ghost use Rattle.ecd_bench.specs.Sample.{array_of_ones};
 
 use ecd_item::{Item, OutOfMemory, Pair, PairList};
+use ecd_lex::MOST_BYTES;
 use std::alloc::{AllocError, Global};
 
 /// The first byte of an array's head with a count of four bytes (RFC 8949, section 3): major type 4, additional information 26.
@@ -39,4 +40,22 @@ pub fn counted_map(alloc: Global, count: u32) -> Result<Item, OutOfMemory> {
         })?;
     }
     Ok(Item::Map(pairs))
+}
+
+/// A text that begins with `first`, has `piece` as often as a schema has room for it, and ends with `last`.
+///
+/// # Errors
+///
+/// `AllocError` where memory runs out.
+pub fn repeated(alloc: Global, first: &str, piece: &str, last: &str) -> Result<String, AllocError> {
+    let room = MOST_BYTES
+        .saturating_sub(first.len())
+        .saturating_sub(last.len());
+    let mut text = String::new(alloc);
+    text.push_str(first)?;
+    for _ in 0..room.checked_div(piece.len()).unwrap_or(0) {
+        text.push_str(piece)?;
+    }
+    text.push_str(last)?;
+    Ok(text)
 }
