@@ -1,5 +1,3 @@
 pub mod Decimals
 pub mod Tables
-pub mod Schemas
-pub mod Statuses
-pub mod Outcomes
+pub mod Due

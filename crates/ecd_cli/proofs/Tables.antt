@@ -1,28 +1,43 @@
 -- The table of commands: words ask for one thing at most.
-use Rattle.std.proofs.Common.{◌≡◌, ℕ, ◌<◌, ◌≤◌, List, [], ◌∷◌, length, get_or, arith, sym, ◌∙◌}
+use Rattle.std.proofs.Common.{◌≡◌, ℕ, ◌<◌, ◌≤◌, ◌^◌, List, [], ◌∷◌, length, arith, refl, ap, sym, ◌∙◌}
 use Rattle.std.specs.Prelude.{decimal, codes}
 use Rattle.std.proofs.lemmas.Fmt.{decimal_injective}
-use Rattle.ecd_cli.specs.Asked.{Asked, compile, Asks, words_of}
+use Rattle.ecd_cli.specs.Asked.{Asked, SchemaAsked, check, compile, read, write, copy, run, sample, IsInRange, Asks, AskOneThing, schema_words, words_behind, command_of}
 
--- a list of four
-pub four : {A : Type 0} (xs : List A) (a b c d : A) → 4 ≤ length xs → length xs < 5 → a ≡ get_or xs 0 a → b ≡ get_or xs 1 b → c ≡ get_or xs 2 c → d ≡ get_or xs 3 d → xs ≡ a ∷ b ∷ c ∷ d ∷ []
-four [] a b c d least most = absurd (omega arith)
-four (x ∷ []) a b c d least most = absurd (omega arith)
-four (x ∷ y ∷ []) a b c d least most = absurd (omega arith)
-four (x ∷ y ∷ z ∷ []) a b c d least most = absurd (omega arith)
-four (x ∷ y ∷ z ∷ w ∷ []) a b c d least most = λ p q r s. cc
-four (x ∷ y ∷ z ∷ w ∷ v ∷ more) a b c d least most = absurd (omega arith)
+number_same : (a b : ℕ) → a < 2 ^ 64 → b < 2 ^ 64 → decimal a ≡ decimal b → a ≡ b
+number_same a b p q e = decimal_injective a b (omega (arith, p)) (omega (arith, q)) e
+
+schema_same : (s t : SchemaAsked) → s.depth ≤ 32 → t.depth ≤ 32 → s.file ≡ t.file → s.root ≡ t.root → decimal s.depth ≡ decimal t.depth → s ≡ t
+schema_same s t p q file root depth =
+    let same : s.depth ≡ t.depth = number_same s.depth t.depth (omega (arith, p)) (omega (arith, q)) depth in
+    λ i. record { file = file i; root = root i; depth = same i }
+
+one_asked : (one other : Asked) → command_of one ∷ words_behind one ≡ command_of other ∷ words_behind other → IsInRange one → IsInRange other → one ≡ other
+one_asked (check s) (check t) e p q = ap check (schema_same s t p q cc cc cc)
+one_asked (compile s) (compile t) e p q = ap compile (schema_same s t p q cc cc cc)
+one_asked (read s d) (read t f) e p q =
+    let data : d ≡ f = cc in
+    let same = schema_same s t p q cc cc cc in
+    λ i. read (same i) (data i)
+one_asked (write s v m) (write t w n) e p q =
+    let value : v ≡ w = cc in
+    let same = schema_same s t p.0 q.0 cc cc cc in
+    let caps : m ≡ n = number_same m n (omega (arith, p.1)) (omega (arith, q.1)) cc in
+    λ i. write (same i) (value i) (caps i)
+one_asked (copy s v m) (copy t w n) e p q =
+    let data : v ≡ w = cc in
+    let same = schema_same s t p.0 q.0 cc cc cc in
+    let caps : m ≡ n = number_same m n (omega (arith, p.1)) (omega (arith, q.1)) cc in
+    λ i. copy (same i) (data i) (caps i)
+one_asked (run c f d m) (run c' f' d' n) e p q =
+    let steps : m ≡ n = number_same m n (omega (arith, p.1)) (omega (arith, q.1)) cc in
+    let files : c ≡ c' = cc in
+    let functions : f ≡ f' = cc in
+    let data : d ≡ d' = cc in
+    λ i. run (files i) (functions i) (data i) (steps i)
+one_asked (sample m) (sample n) e p q = ap sample (number_same m n (omega (arith, p.1)) (omega (arith, q.1)) cc)
+one_asked one other e p q = absurd cc
 
 -- words ask for one thing at most
-pub asks_one : (words : List (List ℕ)) (one other : Asked) → Asks words one → Asks words other → one ≡ other
-asks_one words (compile schema root depth) (compile schema' root' depth') asks asks' =
-    let spelled : words_of (compile schema root depth) ≡ words_of (compile schema' root' depth') = sym asks.spelled ∙ asks'.spelled in
-    let numbers : decimal depth ≡ decimal depth' = cc in
-    let same : depth ≡ depth' = decimal_injective depth depth' (omega (arith, asks.in_range)) (omega (arith, asks'.in_range)) numbers in
-    cc
-
--- words whose last is no number within its range ask for nothing
-pub asks_none : (command schema root number : List ℕ) (asked : Asked) → Asks (command ∷ schema ∷ root ∷ number ∷ []) asked → ((depth : ℕ) → depth ≤ 32 → number ≡ decimal depth → ⊥) → ⊥
-asks_none command schema root number (compile schema' root' depth) asks none =
-    let spelled : command ∷ schema ∷ root ∷ number ∷ [] ≡ codes "compile" ∷ schema' ∷ root' ∷ decimal depth ∷ [] = asks.spelled in
-    none depth asks.in_range cc
+pub asks_one : AskOneThing
+asks_one words one other a b = one_asked one other (sym a.spelled ∙ b.spelled) a.in_range b.in_range

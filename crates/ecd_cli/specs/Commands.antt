@@ -1,6 +1,18 @@
 -- What the words of a command ask for.
-use Rattle.ecd_cli.specs.Asked.{Asked, compile}
-use Rattle.ecd_cli.specs.declared.words.CompileWords.{CompileWords}
+use Rattle.std.specs.Prelude.{ℕ, List}
+use Rattle.ecd_cli.specs.Asked.{Asked, SchemaAsked, check, compile, read, write, copy, run, sample}
+use Rattle.ecd_cli.specs.declared.words.SchemaWords.{SchemaWords}
+use Rattle.ecd_cli.specs.declared.words.Command.{Command}
+use Rattle.ecd_cli.specs.declared.words.Command.TheVariants as commands
 
-abbrev pub asked_by : CompileWords → Asked
-asked_by words = compile words.schema.now words.root.now words.depth
+abbrev pub schema_asked : SchemaWords → SchemaAsked
+schema_asked words = record { file = words.file.now; root = words.root.now; depth = words.depth }
+
+abbrev pub asked_by : Command → Asked
+asked_by (commands.Check schema) = check (schema_asked schema)
+asked_by (commands.Compile schema) = compile (schema_asked schema)
+asked_by (commands.Read schema data) = read (schema_asked schema) data.now
+asked_by (commands.Write schema value cap) = write (schema_asked schema) value.now cap
+asked_by (commands.Copy schema data cap) = copy (schema_asked schema) data.now cap
+asked_by (commands.Run file function data steps) = run file.now function.now data.now steps
+asked_by (commands.Sample entries) = sample entries

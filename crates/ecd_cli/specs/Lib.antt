@@ -1,3 +1,6 @@
 pub mod Asked
-pub mod Answers
 pub mod Commands
+pub mod Outcomes
+pub mod Causes
+pub mod Ends
+pub mod Told

@@ -1,13 +1,15 @@
 //! The command line of the compiler from CDDL (RFC 8610) to C readers and writers of deterministic CBOR (RFC 8949).
 #![tactic(auto)]
 
+pub mod answer;
 pub mod laws;
 pub mod run;
 pub mod status;
 pub mod words;
 
+use answer::{Line, OUT_OF_MEMORY, tell};
 use ecd_outside::{StdFiles, StdSink};
-use run::{run, tell};
+use run::run;
 use status::Status;
 use std::env;
 use std::io::{Error, ErrorKind};
@@ -35,7 +37,7 @@ fn main(rt: HostRuntime) -> ExitCode {
             ExitCode::from(status.number())
         }
         Err(error) if error.kind() == ErrorKind::OutOfMemory => {
-            tell(Status::OutOfMemory, &mut err);
+            tell(&Line::Fixed(OUT_OF_MEMORY), &mut err);
             ExitCode::from(Status::OutOfMemory.number())
         }
         Err(_) => ExitCode::from(NO_WORDS),

@@ -1,7 +1,7 @@
 //! The answers of the command line.
 
 ghost use Rattle.std.specs.Prelude.{◌≡◌};
-ghost use Rattle.ecd_cli.specs.Answers.{number_of, line_of};
+ghost use Rattle.ecd_cli.specs.Outcomes.{number_of};
 
 /// How a call of the program ended. Its number is its place in this list, from 0.
 #[derive(Clone, Copy, Debug, PartialEq, Eq)]
@@ -42,27 +42,5 @@ impl Status {
         ensures { result ≡ number_of self }
     {
         self as u8
-    }
-
-    /// The line on standard error, with its line feed; nothing where there is none.
-    pub fn line(self) -> &'static str
-        ensures { result.now ≡ line_of self }
-    {
-        match self {
-            Status::Usage => "usage: check, compile, read, write, copy, run, sample\n",
-            Status::ReadFault => "read fault\n",
-            Status::WriteFault => "write fault\n",
-            Status::OutOfMemory => "out of memory\n",
-            Status::NotBuilt => "not built\n",
-            Status::Done
-            | Status::Refused
-            | Status::Schema
-            | Status::TooLarge
-            | Status::CFile
-            | Status::Stuck
-            | Status::Spent
-            | Status::Notation
-            | Status::NoFunction => "",
-        }
     }
 }

@@ -12,7 +12,7 @@ const AMPLE: usize = 65_536;
 /// The file `s` of a call, the calls that are to fail, and the room of the two sinks.
 #[derive(Clone, Copy)]
 struct Outside<'a> {
-    contents: Option<&'a str>,
+    contents: Option<&'a [u8]>,
     read_fails: Option<u64>,
     write_fails: Option<u64>,
     out_room: usize,
@@ -21,6 +21,11 @@ struct Outside<'a> {
 
 /// An outside without faults whose file `s` has these contents.
 fn with_file(contents: &str) -> Outside<'_> {
+    with_bytes(contents.as_bytes())
+}
+
+/// The same, with bytes that may be no text.
+fn with_bytes(contents: &[u8]) -> Outside<'_> {
     Outside {
         contents: Some(contents),
         read_fails: None,
@@ -80,7 +85,7 @@ fn call(alloc: Global, words: &str, outside: Outside<'_>) -> Result<Answer, OutO
     if let Some(contents) = outside.contents {
         stored.push(StoredFile {
             name: ByteList::from_slice(alloc, b"s")?,
-            contents: ByteList::from_slice(alloc, contents.as_bytes())?,
+            contents: ByteList::from_slice(alloc, contents)?,
         })?;
     }
     let mut files = MemoryFiles::new(stored, calls(alloc, outside.read_fails)?);
@@ -96,39 +101,100 @@ fn call(alloc: Global, words: &str, outside: Outside<'_>) -> Result<Answer, OutO
     })
 }
 
+/// The answer to words over a file `s` is the status and the line, without a fault.
+fn answers(rt: HostRuntime, row: (&str, &str, Status, &str)) -> Result<(), Fail> {
+    let (words, contents, status, line) = row;
+    let answer = call(rt.alloc(), words, with_file(contents))?;
+    assert_eq!(rt; answer.status, status, "{words}");
+    assert_eq!(rt; answer.err.as_slice(), line.as_bytes(), "{words}");
+    assert_eq!(rt; answer.out.is_empty(), status != Status::Done, "{words}");
+    assert_eq!(rt; (answer.read_faults, answer.write_faults), (0, 0), "{words}");
+    Ok(())
+}
+
 #[test]
-fn rows_of_the_table_answer_their_status_and_line(rt: HostRuntime) -> Result<(), Fail> {
-    let not_built = Status::NotBuilt;
+fn words_are_in_the_table_or_the_usage_is_told(rt: HostRuntime) -> Result<(), Fail> {
     let usage = "usage: check, compile, read, write, copy, run, sample\n";
-    let rows = [
-        ("compile s x 0", "x = 5", Status::Done, ""),
-        ("compile s x 32", "x = 5\n", Status::Done, ""),
-        ("compile s x 0", "x = 24", not_built, "not built\n"),
-        ("compile s y 0", "x = 5", not_built, "not built\n"),
-        ("compile t x 0", "x = 5", Status::ReadFault, "read fault\n"),
-        ("compile s x", "x = 5", Status::Usage, usage),
-        ("check s x 33", "x = 5", Status::Usage, usage),
-        ("compile s x 33", "x = 5", Status::Usage, usage),
-        ("compile s x 00", "x = 5", Status::Usage, usage),
-        ("compile s x +1", "x = 5", Status::Usage, usage),
-        ("compile s x 0 0", "x = 5", Status::Usage, usage),
-        // Schemas of exactly 7, 8 and 9 bytes.
-        ("compile s x 0", "x = 23\n", Status::Done, ""),
-        ("compile s x 0", "x = 23\n\n", not_built, "not built\n"),
-        ("compile s x 0", "x = 23\n\n\n", not_built, "not built\n"),
-    ];
-    for (words, contents, status, line) in rows {
-        let answer = call(rt.alloc(), words, with_file(contents))?;
-        assert_eq!(rt; answer.status, status, "{words}");
-        assert_eq!(rt; answer.err.as_slice(), line.as_bytes(), "{words}");
-        assert_eq!(rt; answer.out.is_empty(), status != Status::Done, "{words}");
-        assert_eq!(rt;
-            (answer.read_faults, answer.write_faults),
-            (0, 0),
-            "{words}"
-        );
+    for words in [
+        "compile s x",
+        "check s x 33",
+        "compile s x 00",
+        "compile s x +1",
+        "compile s x 0 0",
+        "Check s x 0",
+        "read s x 0",
+        "write s x 0 v 16777217",
+        "copy s x 0 s -1",
+        "run s read_0 s 0",
+        "run s read_0 s 9223372036854775808",
+        "sample 0",
+        "sample 20001",
+        "",
+    ] {
+        answers(rt, (words, "x = 5", Status::Usage, usage))?;
+    }
+    for words in [
+        "read s x 0 s",
+        "write s x 32 s 16777216",
+        "copy s x 0 s 0",
+        "run s read_0 s 9223372036854775807",
+        "sample 20000",
+    ] {
+        answers(rt, (words, "x = 5", Status::NotBuilt, "not built\n"))?;
     }
     Ok(())
+}
+
+#[test]
+fn schemas_are_taken_or_refused_with_rule_and_place(rt: HostRuntime) -> Result<(), Fail> {
+    let (done, schema) = (Status::Done, Status::Schema);
+    let not_built = Status::NotBuilt;
+    for row in [
+        ("compile s x 0", "x = 5", done, ""),
+        ("check s x 32", "x = 5\n", done, ""),
+        ("check s x 0", "x = 0x05 ; five", done, ""),
+        ("compile s x 0", "x = 24", not_built, "not built\n"),
+        ("check s y 0", "x = 5", not_built, "not built\n"),
+        ("compile t x 0", "x = 5", Status::ReadFault, "read fault\n"),
+        ("check s a 0", "a = %", schema, "schema 1:5 byte 4 rule X1\n"),
+        ("check s a 0", "a = \"x", schema, "schema 1:5 byte 4 rule X2\n"),
+        ("check s a 0", "a = \"\\x\"", schema, "schema 1:6 byte 5 rule X3\n"),
+        ("check s a 0", "a = 012", schema, "schema 1:5 byte 4 rule X4\n"),
+        ("check s a 0", "a = h'1'", schema, "schema 1:8 byte 7 rule X5\n"),
+        ("check s a 0", "a = b64'AA'", schema, "schema 1:5 byte 4 rule X6\n"),
+        ("check s a 0", "a = [int", schema, "schema 1:9 byte 8 rule P1\n"),
+        ("check s a 0", "", schema, "schema 1:1 byte 0 rule P1\n"),
+        ("compile s x 0", "x = 5\ny = [", schema, "schema 2:6 byte 11 rule P1\n"),
+    ] {
+        answers(rt, row)?;
+    }
+    let broken = call(rt.alloc(), "check s a 0", with_bytes(b"a = \"\xff"))?;
+    assert_eq!(rt; broken.err.as_slice(), b"schema 1:6 byte 5 rule T0\n".as_slice());
+    Ok(())
+}
+
+#[test]
+fn the_49th_open_bracket_is_named(rt: HostRuntime) -> Result<(), Fail> {
+    let mut schema = String::from_str(rt.alloc(), "a = ")?;
+    for _ in 0..49 {
+        schema.push('[')?;
+    }
+    let line = "schema 1:53 byte 52 rule P2\n";
+    answers(rt, ("check s a 0", schema.as_str(), Status::Schema, line))
+}
+
+#[test]
+fn a_schema_of_the_limit_is_read_and_a_longer_one_is_too_large(
+    rt: HostRuntime,
+) -> Result<(), Fail> {
+    let mut schema = String::from_str(rt.alloc(), "x = 5;")?;
+    for _ in 6..262_144 {
+        schema.push('-')?;
+    }
+    answers(rt, ("check s x 0", schema.as_str(), Status::Done, ""))?;
+    schema.push('-')?;
+    let line = "too large: s\n";
+    answers(rt, ("check s x 0", schema.as_str(), Status::TooLarge, line))
 }
 
 #[test]
@@ -136,6 +202,8 @@ fn the_text_of_the_compiler_is_written(rt: HostRuntime) -> Result<(), Fail> {
     let answer = call(rt.alloc(), "compile s x 0", with_file("x = 5"))?;
     let compiled = compile(rt.alloc(), b"x = 5", "x", 0)?;
     assert_eq!(rt; answer.out.as_slice(), compiled.text.as_slice());
+    let answer = call(rt.alloc(), "check s x 0", with_file("x = 5"))?;
+    assert_eq!(rt; answer.out.as_slice(), b"ok\n".as_slice());
     Ok(())
 }
 

@@ -1,1 +1,4 @@
 pub mod ByteReader
+pub mod Causes
+pub mod LoneRule
+pub mod Exact

@@ -1,3 +1,5 @@
 pub mod Thin
+pub mod Schema
+pub mod Refusals
 pub mod Reader
 pub mod Reads

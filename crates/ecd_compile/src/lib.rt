@@ -1,20 +1,28 @@
 //! The compiler: from a schema's text to C text.
 #![tactic(auto)]
 
-ghost use Rattle.std.specs.Prelude.{◌≡◌, ◌≤◌, IfOk, IsErrOf};
+ghost use Rattle.std.specs.Prelude.{ℕ, ◌≡◌, ◌≤◌, ◌⊎◌, IfOk, IfErr, MatchResult, length};
+ghost use Rattle.ecd_syntax.specs.declared.tree.Tree.{Tree};
 ghost use Rattle.ecd_compile.specs.Reads.{IsCompiled};
-ghost use Rattle.ecd_compile.specs.Thin.{IsNotThin};
+ghost use Rattle.ecd_compile.specs.Schema.{IsSchema, HasCause, IsTold, StandsWithin};
+ghost use Rattle.ecd_compile.specs.Thin.{IsThin};
+ghost use Rattle.ecd_compile.specs.declared.refusal.Refusal.{Refusal};
 
+pub mod laws;
 mod reader;
+mod refusal;
+mod schema;
 mod thin;
 
 use crate::reader::reader;
+use crate::schema::schema_tree;
 use crate::thin::thin_number;
 use ecd_cast::builder::Valid;
 use ecd_cprint::print;
-use ecd_list::{ByteList, OutOfMemory};
+use ecd_lex::MOST_BYTES;
+use ecd_list::ByteList;
+pub use refusal::Refusal;
 use std::alloc::Global;
-use thiserror::Error;
 
 /// A compiled schema.
 #[derive(Debug, Drop)]
@@ -24,43 +32,44 @@ pub struct Compiled {
     pub program: Valid,
 }
 
-/// Why a schema was not compiled.
-#[derive(Clone, Copy, Debug, PartialEq, Eq, Error)]
-pub enum Refusal {
-    /// The schema is not one that is compiled so far.
-    #[error("not built")]
-    NotBuilt,
-    #[error("out of memory")]
-    OutOfMemory,
-}
-
-impl From<OutOfMemory> for Refusal {
-    ghost use Rattle.ecd_compile.specs.declared.Refusal.TheVariants.{OutOfMemory as Wants};
-
-    ghost from_gives = { λ _ r. r ≡ Wants };
-
-    fn from(_refused: OutOfMemory) -> Refusal {
-        Refusal::OutOfMemory
-    }
+/// The first broken rule, or the compiled schema.
+fn compile_thin(alloc: Global, schema: &[u8], root: &str) -> Result<Compiled, Refusal>
+    requires { length schema.now ≤ MOST_BYTES }
+    ensures compiled { IfOk result (λ c. IsCompiled schema.now root.now c.text c.program) }
+    ensures refused { IfErr result (λ refusal. HasCause schema.now root.now refusal) }
+    ensures within { IfErr result (λ refusal. StandsWithin (length schema.now) refusal) }
+{
+    let tree = schema_tree(alloc, schema, root)?;
+    let Some(number) = thin_number(&tree, root) else {
+        return Err(Refusal::NotBuilt);
+    };
+    let program = reader(alloc, number)?;
+    let text = print(alloc, &program)?;
+    Ok(Compiled { text, program })
 }
 
 /// Compiles a schema, where `any` holds items of nesting at most `depth`.
 ///
 /// # Errors
 ///
-/// `NotBuilt` exactly where the schema is not `root = number` with a letter a to z and a number from 0 to 23.
+/// The first broken rule of T0, X1 to X6, P1 and P2 with its place. `NotBuilt` exactly where none is broken and the
+/// schema is not the one rule `root = number`, with a letter a to z and a number from 0 to 23.
 pub fn compile(alloc: Global, schema: &[u8], root: &str, depth: u8) -> Result<Compiled, Refusal>
-    requires { depth ≤ 32 }
+    requires shallow { depth ≤ 32 }
+    requires short { length schema.now ≤ MOST_BYTES }
+
+    // A schema that is taken is compiled, and every schema that can be is.
     ensures compiled { IfOk result (λ c. IsCompiled schema.now root.now c.text c.program) }
-    ensures not_built { IsErrOf result Refusal.NotBuilt → IsNotThin schema.now root.now }
+    ensures only_compiled { (tree : Tree) (number : ℕ) → IsSchema schema.now tree → IsThin tree root.now number → IfErr result (λ refusal. refusal ≡ Refusal.OutOfMemory) }
+
+    // A refusal has its cause, and each cause is answered.
+    ensures refused { IfErr result (λ refusal. HasCause schema.now root.now refusal) }
+    ensures only_refused { (cause : Refusal) → IsTold cause → HasCause schema.now root.now cause
+        → MatchResult result (λ _. ⊥) (λ refusal. (refusal ≡ cause) ⊎ (refusal ≡ Refusal.OutOfMemory)) }
+    ensures within { IfErr result (λ refusal. StandsWithin (length schema.now) refusal) }
 {
     let _ = depth;
-    let Some(number) = thin_number(alloc, schema, root)? else {
-        return Err(Refusal::NotBuilt);
-    };
-    let program = reader(alloc, number)?;
-    let text = print(alloc, &program)?;
-    Ok(Compiled { text, program })
+    compile_thin(alloc, schema, root)
 }
 
 #[cfg(test)]
@@ -70,32 +79,39 @@ mod tests {
 
     #[test]
     fn a_rule_with_a_small_number_is_compiled(rt: HostRuntime) -> Result<(), Fail> {
-        for (schema, root, compiles) in [
-            ("x = 5", "x", true),
-            ("x = 5\n", "x", true),
-            ("z = 23", "z", true),
-            ("a = 0", "a", true),
-            ("x = 24", "x", false),
-            ("x = 05", "x", false),
-            ("x = 5\n\n", "x", false),
-            ("x = 5 ", "x", false),
-            ("x = 5", "y", false),
-            ("X = 5", "X", false),
-            ("xy = 5", "xy", false),
-            ("", "x", false),
+        let lex = |place, rule| Some(Refusal::Lex { place, rule });
+        let parse = |place, rule| Some(Refusal::Parse { place, rule });
+        for (schema, root, refusal) in [
+            ("x = 5", "x", None),
+            ("x = 0x05 ; five", "x", None),
+            ("; a number\nz=23\n\n", "z", None),
+            ("a = 0", "a", None),
+            ("x = 24", "x", Some(Refusal::NotBuilt)),
+            ("x = -1", "x", Some(Refusal::NotBuilt)),
+            ("x = 5", "y", Some(Refusal::NotBuilt)),
+            ("X = 5", "X", Some(Refusal::NotBuilt)),
+            ("xy = 5", "xy", Some(Refusal::NotBuilt)),
+            ("x = 5 y = 5", "x", Some(Refusal::NotBuilt)),
+            ("x /= 5", "x", Some(Refusal::NotBuilt)),
+            ("x = ? 5", "x", Some(Refusal::NotBuilt)),
+            ("x = 5 / 6", "x", Some(Refusal::NotBuilt)),
+            ("x = 05", "x", lex(4, 4)),
+            ("a = %", "a", lex(4, 1)),
+            ("", "x", parse(0, 1)),
+            ("a = [int", "a", parse(8, 1)),
+            ("x = 5\ny = [", "x", parse(11, 1)),
         ] {
             match compile(rt.alloc(), schema.as_bytes(), root, 0) {
                 Ok(compiled) => {
-                    assert!(rt; compiles, "{schema:?} is compiled");
+                    assert!(rt; refusal.is_none(), "{schema:?} is compiled");
                     assert!(rt; compiled.text.as_slice().ends_with(b"}\n"));
                     assert_eq!(rt; compiled.program.call_depth(), 1);
                 }
-                Err(refusal) => {
-                    assert!(rt; !compiles, "{schema:?} is refused");
-                    assert_eq!(rt; refusal, Refusal::NotBuilt);
-                }
+                Err(found) => assert_eq!(rt; Some(found), refusal, "{schema:?}"),
             }
         }
+        let broken = compile(rt.alloc(), b"a = \"\xff", "a", 0);
+        assert!(rt; matches!(broken, Err(Refusal::NotUtf8 { place: 5 })));
         Ok(())
     }
 }

@@ -1,59 +1,64 @@
-//! The schemas that are compiled so far: `x = 5`.
+//! The schemas that are compiled so far: one rule with one small number.
 
-ghost use Rattle.std.specs.Prelude.{◌≡◌, ◌++◌, ◌∷◌, [], ◌↔◌, IfOk, IsTrue, string_bytes};
-ghost use Rattle.ecd_compile.specs.Thin as spec;
-ghost use Rattle.ecd_compile.specs.Thin.{IsRule, IsNumberOf};
+ghost use Rattle.std.specs.Prelude.{◌↔◌, IsTrue};
+ghost use Rattle.ecd_compile.specs.Thin.{IsSmall, IsLoneNumber, Defines, IsThin, IsFound};
 
-use ecd_list::OutOfMemory;
-use std::alloc::Global;
+use ecd_syntax::{Assign, Entry, Form, Key, Literal, Rule, Tree};
 
-/// `root = number`
-fn rule_text(alloc: Global, root: &str, number: u8) -> Result<String, OutOfMemory>
-    ensures { IfOk result (λ text. string_bytes text ≡ spec.rule_text root.now number) }
+/// The integer of a literal, if it is from 0 to 23.
+fn small_number(literal: &Literal) -> Option<u8>
+    ensures { IsFound (IsSmall literal.now) result }
 {
-    let text = format!(in alloc; "{root} = {number}")?;
-    Ok(text)
+    match literal {
+        Literal::Int(Some(value)) if 0 <= *value && *value < 24 => Some(*value as u8),
+        _ => None,
+    }
 }
 
-/// `root = number` and a line feed.
-fn line_text(alloc: Global, root: &str, number: u8) -> Result<String, OutOfMemory>
-    ensures { IfOk result (λ text. string_bytes text ≡ spec.rule_text root.now number ++ 10 ∷ []) }
+/// The number of an entry that is a small number and nothing else.
+fn lone_number(entry: &Entry) -> Option<u8>
+    ensures { IsFound (IsLoneNumber entry.now) result }
 {
-    let text = format!(in alloc; "{root} = {number}\n")?;
-    Ok(text)
+    if entry.occur.is_some() {
+        return None;
+    }
+    let Key::Missing = &entry.key else {
+        return None;
+    };
+    let [choice] = entry.body.choices.as_slice() else {
+        return None;
+    };
+    if choice.op.is_some() {
+        return None;
+    }
+    match &choice.left.form {
+        Form::Lit(literal) => small_number(literal),
+        _ => None,
+    }
 }
 
-fn is_same(left: &[u8], right: &[u8]) -> bool
-    ensures { IsTrue result ↔ (left.now ≡ right.now) }
-{
-    left == right
-}
-
-/// Whether the schema is the one rule `root = number`.
-fn is_rule(alloc: Global, schema: &[u8], root: &str, number: u8) -> Result<bool, OutOfMemory>
-    ensures { IfOk result (λ b. IsTrue b ↔ IsRule schema.now root.now number) }
-{
-    let rule = rule_text(alloc, root, number)?;
-    let line = line_text(alloc, root, number)?;
-    let is_rule = is_same(schema, rule.as_bytes());
-    let is_line = is_same(schema, line.as_bytes());
-    Ok(is_rule || is_line)
-}
-
-/// The number of a schema `root = number`, where the root is a letter a to z and the number is at most 23.
-pub fn thin_number(alloc: Global, schema: &[u8], root: &str) -> Result<Option<u8>, OutOfMemory>
-    ensures { IfOk result (λ o. IsNumberOf schema.now root.now o) }
+/// Whether the rule defines the root, a letter a to z, without parameters.
+fn defines(rule: &Rule, root: &str) -> bool
+    ensures { IsTrue result ↔ Defines rule.now root.now }
 {
     let [letter] = root.as_bytes() else {
-        return Ok(None);
+        return false;
     };
-    if !letter.is_ascii_lowercase() {
-        return Ok(None);
+    letter.is_ascii_lowercase()
+        && rule.name.text.as_slice() == root.as_bytes()
+        && rule.params.is_empty()
+        && rule.assign == Assign::Define
+}
+
+/// The number of a schema with the one rule `root = number`.
+pub fn thin_number(tree: &Tree, root: &str) -> Option<u8>
+    ensures { IsFound (IsThin tree.now root.now) result }
+{
+    let [rule] = tree.rules.as_slice() else {
+        return None;
+    };
+    if !defines(rule, root) {
+        return None;
     }
-    for number in 0..24u8 {
-        if is_rule(alloc, schema, root, number)? {
-            return Ok(Some(number));
-        }
-    }
-    Ok(None)
+    lone_number(&rule.body)
 }

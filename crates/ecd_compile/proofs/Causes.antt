@@ -1,0 +1,92 @@
+-- Each cause of a refusal rules out the others.
+use Rattle.std.proofs.Common.{◌≡◌, ℕ, ◌+◌, ◌<◌, ◌≤◌, ◌⊎◌, ⊎_elim, List, length, take, refl, ap, sym, ◌∙◌, subst, arith}
+use Rattle.std.proofs.lemmas.Bool.{cases_lt}
+use Rattle.std.specs.Str.{IsUtf8, IsValidUpTo}
+use Rattle.ecd_lex.specs.declared.token.Token.{Token}
+use Rattle.ecd_lex.specs.Lexemes.{Lexemes}
+use Rattle.ecd_lex.proofs.Determined.{one_list, no_list_and_fault, one_fault}
+use Rattle.ecd_syntax.specs.declared.tree.Tree.{Tree}
+use Rattle.ecd_syntax.specs.Grammar.{Spells}
+use Rattle.ecd_syntax.specs.Faults.{IsWithin, UnexpectedAt, TooNestedAt}
+use Rattle.ecd_syntax.proofs.Verdicts.{one_spelled, one_unexpected, one_nested, nested_not_within, nested_not_unexpected, unexpected_no_schema}
+use Rattle.ecd_cast.specs.declared.tree.Program.{Program}
+use Rattle.ecd_compile.specs.declared.refusal.Refusal.{Refusal}
+use Rattle.ecd_compile.specs.declared.refusal.Refusal.TheVariants.{NotUtf8, Lex, Parse, NotBuilt, OutOfMemory}
+use Rattle.ecd_compile.specs.Schema.{IsSchema, IsSyntaxFault, IsNoSchema, IsNoText, BreaksLexemes, IsNotThin, HasCause, IsTold, HasOneCause}
+use Rattle.ecd_compile.specs.Thin.{IsThin}
+use Rattle.ecd_compile.specs.Reads.{IsCompiled, IsNeverRefused}
+
+-- the longest front that is UTF-8 is one
+not_longer : (text : List ℕ) (p q : ℕ) → IsValidUpTo text p → IsValidUpTo text q → p < q → ⊥
+not_longer text p q a b lt = a.longest q lt b.front
+
+one_front : (text : List ℕ) (p q : ℕ) → IsValidUpTo text p → IsValidUpTo text q → p ≡ q
+one_front text p q a b =
+    ⊎_elim (λ (lt : p < q). absurd (not_longer text p q a b lt)) (λ (le : q ≤ p). ⊎_elim (λ (gt : q < p). absurd (not_longer text q p b a gt)) (λ (ge : p ≤ q). let e : p ≡ q = omega arith in e) (cases_lt q p)) (cases_lt p q)
+
+syntax_same : (tokens : List Token) (end p q r s : ℕ) → IsSyntaxFault tokens end p r → IsSyntaxFault tokens end q s → Parse p r ≡ Parse q s
+syntax_same tokens end p q r s a b =
+    ⊎_elim
+    (λ (x : (r ≡ 1) × UnexpectedAt tokens end p). ⊎_elim
+    (λ (y : (s ≡ 1) × UnexpectedAt tokens end q). λ i. Parse (one_unexpected tokens end p q x.1 y.1 i) ((x.0 ∙ sym y.0) i))
+    (λ (y : (s ≡ 2) × TooNestedAt tokens q). absurd (nested_not_unexpected tokens end q p y.1 x.1)) b)
+    (λ (x : (r ≡ 2) × TooNestedAt tokens p). ⊎_elim
+    (λ (y : (s ≡ 1) × UnexpectedAt tokens end q). absurd (nested_not_unexpected tokens end p q x.1 y.1))
+    (λ (y : (s ≡ 2) × TooNestedAt tokens q). λ i. Parse (one_nested tokens p q x.1 y.1 i) ((x.0 ∙ sym y.0) i)) b)
+    a
+
+syntax_or_schema : (tokens : List Token) (tree : Tree) (end p r : ℕ) → IsSyntaxFault tokens end p r → Spells tree tokens → IsWithin tokens → ⊥
+syntax_or_schema tokens tree end p r a s w =
+    ⊎_elim (λ (x : (r ≡ 1) × UnexpectedAt tokens end p). unexpected_no_schema tree tokens x.1.before x.1.rest x.1.unexpected s) (λ (x : (r ≡ 2) × TooNestedAt tokens p). nested_not_within tokens p x.1 w) a
+
+no_schema_or_schema : (text : List ℕ) (tree : Tree) (p r : ℕ) → IsNoSchema text p r → IsSchema text tree → ⊥
+no_schema_or_schema text tree p r a b =
+    let same : a.tokens ≡ b.tokens = one_list text a.tokens b.tokens a.lexemes b.lexemes in
+    syntax_or_schema b.tokens tree (length text) p r (subst (λ (ts : List Token). IsSyntaxFault ts (length text) p r) same a.fault) b.spells b.within
+
+no_schema_same : (text : List ℕ) (p q r s : ℕ) → IsNoSchema text p r → IsNoSchema text q s → Parse p r ≡ Parse q s
+no_schema_same text p q r s a b =
+    let same : a.tokens ≡ b.tokens = one_list text a.tokens b.tokens a.lexemes b.lexemes in
+    syntax_same b.tokens (length text) p q r s (subst (λ (ts : List Token). IsSyntaxFault ts (length text) p r) same a.fault) b.fault
+
+lexemes_same : (text : List ℕ) (p q r s : ℕ) → BreaksLexemes text p r → BreaksLexemes text q s → Lex p r ≡ Lex q s
+lexemes_same text p q r s a b = let e = one_fault text p q r s a.first b.first in λ i. Lex (e.0 i) (e.1 i)
+
+pub one_cause : HasOneCause
+one_cause text root (NotUtf8 p) (NotUtf8 q) x y a b = ap NotUtf8 (one_front text p q a.stands b.stands)
+one_cause text root (NotUtf8 p) (Lex q s) x y a b = absurd (a.bad b.utf8)
+one_cause text root (NotUtf8 p) (Parse q s) x y a b = absurd (a.bad b.utf8)
+one_cause text root (NotUtf8 p) NotBuilt x y a b = absurd (a.bad b.schema.utf8)
+one_cause text root (NotUtf8 p) OutOfMemory x y a b = absurd y
+one_cause text root (Lex p r) (NotUtf8 q) x y a b = absurd (b.bad a.utf8)
+one_cause text root (Lex p r) (Lex q s) x y a b = lexemes_same text p q r s a b
+one_cause text root (Lex p r) (Parse q s) x y a b = absurd (no_list_and_fault text b.tokens p r b.lexemes a.first)
+one_cause text root (Lex p r) NotBuilt x y a b = absurd (no_list_and_fault text b.schema.tokens p r b.schema.lexemes a.first)
+one_cause text root (Lex p r) OutOfMemory x y a b = absurd y
+one_cause text root (Parse p r) (NotUtf8 q) x y a b = absurd (b.bad a.utf8)
+one_cause text root (Parse p r) (Lex q s) x y a b = absurd (no_list_and_fault text a.tokens q s a.lexemes b.first)
+one_cause text root (Parse p r) (Parse q s) x y a b = no_schema_same text p q r s a b
+one_cause text root (Parse p r) NotBuilt x y a b = absurd (no_schema_or_schema text b.tree p r a b.schema)
+one_cause text root (Parse p r) OutOfMemory x y a b = absurd y
+one_cause text root NotBuilt (NotUtf8 q) x y a b = absurd (b.bad a.schema.utf8)
+one_cause text root NotBuilt (Lex q s) x y a b = absurd (no_list_and_fault text a.schema.tokens q s a.schema.lexemes b.first)
+one_cause text root NotBuilt (Parse q s) x y a b = absurd (no_schema_or_schema text a.tree q s b a.schema)
+one_cause text root NotBuilt NotBuilt x y a b = refl
+one_cause text root NotBuilt OutOfMemory x y a b = absurd y
+one_cause text root OutOfMemory s x y a b = absurd x
+
+same_tree : (text : List ℕ) (t u : Tree) → IsSchema text t → IsSchema text u → t ≡ u
+same_tree text t u a b =
+    let same : a.tokens ≡ b.tokens = one_list text a.tokens b.tokens a.lexemes b.lexemes in
+    one_spelled t u b.tokens (subst (λ (ts : List Token). Spells t ts) same a.spells) b.spells
+
+-- a schema that is thin has no cause to be refused
+pub refused_or_thin : (schema root : List ℕ) (tree : Tree) (number : ℕ) (r : Refusal) → IsSchema schema tree → IsThin tree root number → IsTold r → HasCause schema root r → ⊥
+refused_or_thin schema root tree number (NotUtf8 q) parsed thin x a = a.bad parsed.utf8
+refused_or_thin schema root tree number (Lex q s) parsed thin x a = no_list_and_fault schema parsed.tokens q s parsed.lexemes a.first
+refused_or_thin schema root tree number (Parse q s) parsed thin x a = no_schema_or_schema schema tree q s a parsed
+refused_or_thin schema root tree number NotBuilt parsed thin x a = a.other number (subst (λ (t : Tree). IsThin t root number) (same_tree schema tree a.tree parsed a.schema) thin)
+refused_or_thin schema root tree number OutOfMemory parsed thin x a = x
+
+pub never_refused : IsNeverRefused
+never_refused schema root text p r c x a = refused_or_thin schema root c.tree c.number r c.parsed c.thin x a

@@ -1,0 +1,57 @@
+ghost use Rattle.std.specs.Prelude.{◌≡◌};
+ghost use Rattle.ecd_compile.specs.Refusals.{of_lexemes_is, of_grammar_is};
+
+use ecd_lex::LexFault;
+use ecd_list::OutOfMemory;
+use ecd_parse::ParseFault;
+use thiserror::Error;
+
+/// Why a schema is not compiled. A place is a byte's offset in the schema, from 0.
+#[derive(Clone, Copy, Debug, PartialEq, Eq, Error)]
+pub enum Refusal {
+    /// T0: the bytes are no UTF-8. The place is the length of the longest front that is.
+    #[error("rule T0 at byte {place}")]
+    NotUtf8 { place: u32 },
+    /// The first broken rule of X1 to X6.
+    #[error("rule X{rule} at byte {place}")]
+    Lex { place: u32, rule: u8 },
+    /// P1 at the first unexpected token, or P2 at the 49th open bracket.
+    #[error("rule P{rule} at byte {place}")]
+    Parse { place: u32, rule: u8 },
+    /// The schema is not one that is compiled so far.
+    #[error("not built")]
+    NotBuilt,
+    #[error("out of memory")]
+    OutOfMemory,
+}
+
+impl From<OutOfMemory> for Refusal {
+    ghost use Rattle.ecd_compile.specs.declared.refusal.Refusal.TheVariants.{OutOfMemory as Wants};
+
+    ghost from_gives = { λ _ r. r ≡ Wants };
+
+    fn from(_refused: OutOfMemory) -> Refusal {
+        Refusal::OutOfMemory
+    }
+}
+
+/// A fault of the lexemes as a refusal.
+pub fn of_lexemes(fault: LexFault) -> Refusal
+    ensures { result ≡ of_lexemes_is fault }
+{
+    match fault {
+        LexFault::At { place, rule } => Refusal::Lex { place, rule },
+        LexFault::OutOfMemory => Refusal::OutOfMemory,
+    }
+}
+
+/// A fault of the grammar as a refusal.
+pub fn of_grammar(fault: ParseFault) -> Refusal
+    ensures { result ≡ of_grammar_is fault }
+{
+    match fault {
+        ParseFault::Unexpected { place } => Refusal::Parse { place, rule: 1 },
+        ParseFault::TooNested { place } => Refusal::Parse { place, rule: 2 },
+        ParseFault::OutOfMemory => Refusal::OutOfMemory,
+    }
+}
