@@ -1,15 +1,17 @@
 -- Words and told contents ask for one thing.
 use Rattle.std.proofs.Common.{◌≡◌, ℕ, ◌<◌, ◌≤◌, ◌⊎◌, ⊎_elim, inl, inr, List, [], ◌∷◌, length, arith, refl, ap, sym, ◌∙◌, subst}
-use Rattle.std.specs.Prelude.{Option, Some, None}
-use Rattle.ecd_outside.specs.Told.{IsLonger, IsMissing}
+use Rattle.std.specs.Prelude.{Option, Some, None, IsSome}
+use Rattle.ecd_outside.specs.Told.{Told, IsLonger, IsMissing}
 use Rattle.ecd_outside.specs.Causes.{IsFaultFree, Rose}
 use Rattle.ecd_compile.specs.declared.refusal.Refusal.{Refusal}
 use Rattle.ecd_compile.specs.Schema.{IsTold, HasCause}
 use Rattle.ecd_compile.specs.Reads.{IsCompiled}
 use Rattle.ecd_compile.proofs.Causes.{one_cause, never_refused}
 use Rattle.ecd_cli.specs.Asked.{Asked, SchemaAsked, check, compile, read, write, copy, run, sample}
-use Rattle.ecd_cli.specs.Outcomes.{Outcome, Done, Broken, Usage, ReadFault, WriteFault, TooLarge, OutOfMemory, NotBuilt}
-use Rattle.ecd_cli.specs.Causes.{Wanted, schema_wanted, files_of, IsRead, IsTooLarge, IsTooLargeFor, IsOneMissing, MayFailToRead, IsRefused, IsTaken, IsDenied, IsDue, IsText, IsDecided, outcome_of_refusal}
+use Rattle.ecd_cli.specs.Outcomes.{Outcome, status_of, Done, Broken, Usage, ReadFault, WriteFault, TooLarge, OutOfMemory, NotBuilt}
+use Rattle.ecd_cli.specs.Causes.{Wanted, schema_wanted, files_of, IsRead, IsTooLarge, IsTooLargeFor, IsOneMissing, MayFailToRead, IsRefused, IsTaken, IsDenied, IsDue, IsText, IsDecided, HasNoText, outcome_of_refusal}
+use Rattle.ecd_cli.specs.declared.status.Status.{Status}
+use Rattle.ecd_cli.specs.declared.status.Status.TheVariants as statuses
 use Rattle.ecd_cli.specs.Ends.{OneIsDue}
 
 abbrev Contents : Type 0
@@ -185,12 +187,63 @@ pub text_left : (contents : Contents) (asked : Asked) (o : Outcome) (text : List
     → (o ≡ Usage → ⊥) → (o ≡ ReadFault → MayFailToRead (Some contents) asked before now) → (IsDecided o → IsDue (Some contents) asked o)
     → (o ≡ WriteFault → Rose out_before out_now)
     → IsText (Some contents) asked text → IsFaultFree before now → IsFaultFree out_before out_now → (o ≡ Done) ⊎ (o ≡ OutOfMemory)
-text_left contents asked Done text before now ob on usage fault decided write t free free_out = inl refl
-text_left contents asked (Broken l c p r) text before now ob on usage fault decided write t free free_out = absurd (due_or_text contents asked (Broken l c p r) text (decided tt) t)
-text_left contents asked Usage text before now ob on usage fault decided write t free free_out = absurd (usage refl)
-text_left contents asked ReadFault text before now ob on usage fault decided write t free free_out =
+text_left contents asked Done text before now ob on usage fault decided out t free free_out = inl refl
+text_left contents asked (Broken l c p r) text before now ob on usage fault decided out t free free_out = absurd (due_or_text contents asked (Broken l c p r) text (decided tt) t)
+text_left contents asked Usage text before now ob on usage fault decided out t free free_out = absurd (usage refl)
+text_left contents asked ReadFault text before now ob on usage fault decided out t free free_out =
     ⊎_elim (λ (x : Rose before now). absurd (not_rose before now free x)) (λ (x : IsOneMissing (Some contents) (files_of asked)). absurd (text_or_missing contents asked text t x)) (fault refl)
-text_left contents asked WriteFault text before now ob on usage fault decided write t free free_out = absurd (not_rose ob on free_out (write refl))
-text_left contents asked (TooLarge n) text before now ob on usage fault decided write t free free_out = absurd (due_or_text contents asked (TooLarge n) text (decided tt) t)
-text_left contents asked OutOfMemory text before now ob on usage fault decided write t free free_out = inr refl
-text_left contents asked NotBuilt text before now ob on usage fault decided write t free free_out = absurd (due_or_text contents asked NotBuilt text (decided tt) t)
+text_left contents asked WriteFault text before now ob on usage fault decided out t free free_out = absurd (not_rose ob on free_out (out refl))
+text_left contents asked (TooLarge n) text before now ob on usage fault decided out t free free_out = absurd (due_or_text contents asked (TooLarge n) text (decided tt) t)
+text_left contents asked OutOfMemory text before now ob on usage fault decided out t free free_out = inr refl
+text_left contents asked NotBuilt text before now ob on usage fault decided out t free free_out = absurd (due_or_text contents asked NotBuilt text (decided tt) t)
+
+-- ---- the same for what is told
+
+pub due_is_left : (told : Told) (asked : Asked) (o due : Outcome) (before now : ℕ)
+    → (o ≡ Usage → ⊥) → (o ≡ ReadFault → MayFailToRead told asked before now) → (IsDecided o → IsDue told asked o)
+    → (o ≡ Done → (text : List ℕ) × IsText told asked text) → (o ≡ WriteFault → (text : List ℕ) × IsText told asked text)
+    → IsSome told → IsDue told asked due → IsFaultFree before now → (o ≡ due) ⊎ (o ≡ OutOfMemory)
+due_is_left None asked o due before now usage fault decided done front some d free = let none : ⊥ = cc in absurd none
+due_is_left (Some contents) asked o due before now usage fault decided done front some d free = due_left contents asked o due before now usage fault decided done front d free
+
+pub text_is_left : (told : Told) (asked : Asked) (o : Outcome) (text : List ℕ) (before now out_before out_now : ℕ)
+    → (o ≡ Usage → ⊥) → (o ≡ ReadFault → MayFailToRead told asked before now) → (IsDecided o → IsDue told asked o) → (o ≡ WriteFault → Rose out_before out_now)
+    → IsSome told → IsText told asked text → IsFaultFree before now → IsFaultFree out_before out_now → (o ≡ Done) ⊎ (o ≡ OutOfMemory)
+text_is_left None asked o text before now ob on usage fault decided out some t free free_out = let none : ⊥ = cc in absurd none
+text_is_left (Some contents) asked o text before now ob on usage fault decided out some t free free_out = text_left contents asked o text before now ob on usage fault decided out t free free_out
+
+-- a refusal that is decided is due
+pub decided_due : (told : Told) (asked : Asked) (before now : ℕ) (o : Outcome) → HasNoText told asked before now o → IsDecided o → IsDue told asked o
+decided_due told asked before now Done cause decided = absurd cause
+decided_due told asked before now (Broken l c p r) cause decided = cause
+decided_due told asked before now Usage cause decided = absurd cause
+decided_due told asked before now ReadFault cause decided = absurd decided
+decided_due told asked before now WriteFault cause decided = absurd cause
+decided_due told asked before now (TooLarge n) cause decided = cause
+decided_due told asked before now OutOfMemory cause decided = absurd decided
+decided_due told asked before now NotBuilt cause decided = cause
+
+-- ---- statuses
+
+pub status_left : (s : Status) (o due : Outcome) → s ≡ status_of o → (o ≡ due) ⊎ (o ≡ OutOfMemory) → (s ≡ status_of due) ⊎ (s ≡ statuses.OutOfMemory)
+status_left s o due e left = ⊎_elim (λ (x : o ≡ due). inl (e ∙ ap status_of x)) (λ (x : o ≡ OutOfMemory). inr (e ∙ ap status_of x)) left
+
+pub is_done : (o : Outcome) → status_of o ≡ statuses.Done → o ≡ Done
+is_done Done e = refl
+is_done (Broken l c p r) e = let none : ⊥ = cc in absurd none
+is_done Usage e = let none : ⊥ = cc in absurd none
+is_done ReadFault e = let none : ⊥ = cc in absurd none
+is_done WriteFault e = let none : ⊥ = cc in absurd none
+is_done (TooLarge n) e = let none : ⊥ = cc in absurd none
+is_done OutOfMemory e = let none : ⊥ = cc in absurd none
+is_done NotBuilt e = let none : ⊥ = cc in absurd none
+
+pub is_write_fault : (o : Outcome) → status_of o ≡ statuses.WriteFault → o ≡ WriteFault
+is_write_fault WriteFault e = refl
+is_write_fault Done e = let none : ⊥ = cc in absurd none
+is_write_fault (Broken l c p r) e = let none : ⊥ = cc in absurd none
+is_write_fault Usage e = let none : ⊥ = cc in absurd none
+is_write_fault ReadFault e = let none : ⊥ = cc in absurd none
+is_write_fault (TooLarge n) e = let none : ⊥ = cc in absurd none
+is_write_fault OutOfMemory e = let none : ⊥ = cc in absurd none
+is_write_fault NotBuilt e = let none : ⊥ = cc in absurd none

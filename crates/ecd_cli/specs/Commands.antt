@@ -11,8 +11,8 @@ schema_asked words = record { file = words.file.now; root = words.root.now; dept
 abbrev pub asked_by : Command → Asked
 asked_by (commands.Check schema) = check (schema_asked schema)
 asked_by (commands.Compile schema) = compile (schema_asked schema)
-asked_by (commands.Read schema data) = read (schema_asked schema) data.now
+asked_by (commands.Read schema file) = read (schema_asked schema) file.now
 asked_by (commands.Write schema value cap) = write (schema_asked schema) value.now cap
-asked_by (commands.Copy schema data cap) = copy (schema_asked schema) data.now cap
-asked_by (commands.Run file function data steps) = run file.now function.now data.now steps
+asked_by (commands.Copy schema file cap) = copy (schema_asked schema) file.now cap
+asked_by (commands.Run file function input steps) = run file.now function.now input.now steps
 asked_by (commands.Sample entries) = sample entries

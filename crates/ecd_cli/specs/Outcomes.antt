@@ -34,7 +34,7 @@ status_of NotBuilt = statuses.NotBuilt
 abbrev pub line_of : Outcome → List ℕ
 line_of Done = []
 line_of (Broken line column place rule) =
-    codes "schema " ++ decimal line ++ codes ":" ++ decimal column ++ codes " byte " ++ decimal place ++ codes " rule " ++ rule.letter ++ decimal rule.number ++ codes "\n"
+    codes "schema " ++ (decimal line ++ (codes ":" ++ (decimal column ++ (codes " byte " ++ (decimal place ++ (codes " rule " ++ (rule.letter ++ (decimal rule.number ++ codes "\n"))))))))
 line_of Usage = codes "usage: check, compile, read, write, copy, run, sample\n"
 line_of ReadFault = codes "read fault\n"
 line_of WriteFault = codes "write fault\n"

@@ -1,6 +1,6 @@
 //! What a call answers, and the line that tells it.
 
-ghost use Rattle.std.specs.Prelude.{◌≡◌, IfOk, IfErr};
+ghost use Rattle.std.specs.Prelude.{◌≡◌, ◌≤◌, IfOk, IfErr};
 ghost use Rattle.ecd_cli.specs.Outcomes.{status_of, line_of};
 ghost use Rattle.ecd_cli.specs.Causes.{TellsLine};
 ghost use Rattle.ecd_cli.specs.Told.{outcome_of, bytes_in, HasDetail};
@@ -30,7 +30,9 @@ pub enum Answer<'a> {
     /// The output could not be written.
     WriteFault,
     /// The file of that name is larger than its limit.
-    TooLarge { name: &'a str },
+    TooLarge {
+        name: &'a str,
+    },
     /// Want of memory.
     OutOfMemory,
     /// What is asked for is not built.
@@ -66,7 +68,7 @@ pub enum Line {
 pub const OUT_OF_MEMORY: &str = "out of memory\n";
 
 /// The line of an answer. It takes memory only where it says more than the status.
-pub fn line(alloc: Global, answer: &Answer<'_>) -> Result<Line, OutOfMemory>
+pub fn line_for(alloc: Global, answer: &Answer<'_>) -> Result<Line, OutOfMemory>
     ensures line { IfOk result (λ line. bytes_in line ≡ line_of (outcome_of answer.now)) }
     ensures fails { IfErr result (λ _. HasDetail (outcome_of answer.now)) }
 {
@@ -78,12 +80,10 @@ pub fn line(alloc: Global, answer: &Answer<'_>) -> Result<Line, OutOfMemory>
             place,
             letter,
             rule,
-        } => Ok(Line::Made(
-            format!(in alloc; "schema {line}:{column} byte {place} rule {letter}{rule}\n")?,
-        )),
-        Answer::Usage => Ok(Line::Fixed(
-            "usage: check, compile, read, write, copy, run, sample\n",
-        )),
+        } => Ok(Line::Made(format!(in alloc;
+            "schema {line}:{column} byte {place} rule {letter}{rule}\n"
+        )?)),
+        Answer::Usage => Ok(Line::Fixed("usage: check, compile, read, write, copy, run, sample\n")),
         Answer::ReadFault => Ok(Line::Fixed("read fault\n")),
         Answer::WriteFault => Ok(Line::Fixed("write fault\n")),
         Answer::TooLarge { name } => Ok(Line::Made(format!(in alloc; "too large: {name}\n")?)),

@@ -10,7 +10,7 @@ ghost use Rattle.ecd_cli.specs.Ends.{Ended};
 ghost use Rattle.ecd_cli.specs.Told.{outcome_of};
 ghost use Rattle.ecd_compile.specs.Schema.{StandsWithin};
 
-use crate::answer::{Answer, Line, OUT_OF_MEMORY, line, tell};
+use crate::answer::{Answer, Line, OUT_OF_MEMORY, line_for, tell};
 use crate::status::Status;
 use crate::words::{Command, SchemaWords, command_in};
 use ecd_compile::{Compiled, Refusal, compile};
@@ -116,7 +116,7 @@ fn text_of<'a, F: Files>(
 }
 
 /// Does what the words ask for.
-fn answer<'a, F: Files, O: Sink>(
+fn answer_to<'a, F: Files, O: Sink>(
     alloc: Global,
     words: &'a [String],
     files: &mut F,
@@ -204,8 +204,8 @@ pub fn run<F: Files, O: Sink, E: Sink>(
     ensures out_later { O.faults out.old ≤ O.faults out.new }
     ensures err_later { E.faults err.old ≤ E.faults err.new }
 {
-    let answer = answer(alloc, words, files, out);
-    match line(alloc, &answer) {
+    let answer = answer_to(alloc, words, files, out);
+    match line_for(alloc, &answer) {
         Ok(line) => {
             tell(&line, err);
             answer.status()

@@ -101,19 +101,27 @@ fn call(alloc: Global, words: &str, outside: Outside<'_>) -> Result<Answer, OutO
     })
 }
 
-/// The answer to words over a file `s` is the status and the line, without a fault.
-fn answers(rt: HostRuntime, row: (&str, &str, Status, &str)) -> Result<(), Fail> {
-    let (words, contents, status, line) = row;
-    let answer = call(rt.alloc(), words, with_file(contents))?;
-    assert_eq!(rt; answer.status, status, "{words}");
-    assert_eq!(rt; answer.err.as_slice(), line.as_bytes(), "{words}");
-    assert_eq!(rt; answer.out.is_empty(), status != Status::Done, "{words}");
-    assert_eq!(rt; (answer.read_faults, answer.write_faults), (0, 0), "{words}");
-    Ok(())
+/// Whether the words over a file `s` answer the status and the line, without a fault, and write only where they are done.
+fn is_answered(
+    alloc: Global,
+    words: &str,
+    contents: &str,
+    status: Status,
+    line: &str,
+) -> Result<bool, OutOfMemory> {
+    let answer = call(alloc, words, with_file(contents))?;
+    Ok(
+        answer.status == status
+            && answer.err.as_slice() == line.as_bytes()
+            && answer.out.is_empty() == (status != Status::Done)
+            && answer.read_faults == 0
+            && answer.write_faults == 0,
+    )
 }
 
 #[test]
 fn words_are_in_the_table_or_the_usage_is_told(rt: HostRuntime) -> Result<(), Fail> {
+    let not_built = Status::NotBuilt;
     let usage = "usage: check, compile, read, write, copy, run, sample\n";
     for words in [
         "compile s x",
@@ -131,7 +139,8 @@ fn words_are_in_the_table_or_the_usage_is_told(rt: HostRuntime) -> Result<(), Fa
         "sample 20001",
         "",
     ] {
-        answers(rt, (words, "x = 5", Status::Usage, usage))?;
+        let told = is_answered(rt.alloc(), words, "x = 5", Status::Usage, usage)?;
+        assert!(rt; told, "{words}");
     }
     for words in [
         "read s x 0 s",
@@ -140,7 +149,8 @@ fn words_are_in_the_table_or_the_usage_is_told(rt: HostRuntime) -> Result<(), Fa
         "run s read_0 s 9223372036854775807",
         "sample 20000",
     ] {
-        answers(rt, (words, "x = 5", Status::NotBuilt, "not built\n"))?;
+        let told = is_answered(rt.alloc(), words, "x = 5", not_built, "not built\n")?;
+        assert!(rt; told, "{words}");
     }
     Ok(())
 }
@@ -149,27 +159,71 @@ fn words_are_in_the_table_or_the_usage_is_told(rt: HostRuntime) -> Result<(), Fa
 fn schemas_are_taken_or_refused_with_rule_and_place(rt: HostRuntime) -> Result<(), Fail> {
     let (done, schema) = (Status::Done, Status::Schema);
     let not_built = Status::NotBuilt;
-    for row in [
+    for (words, contents, status, line) in [
         ("compile s x 0", "x = 5", done, ""),
         ("check s x 32", "x = 5\n", done, ""),
         ("check s x 0", "x = 0x05 ; five", done, ""),
         ("compile s x 0", "x = 24", not_built, "not built\n"),
         ("check s y 0", "x = 5", not_built, "not built\n"),
         ("compile t x 0", "x = 5", Status::ReadFault, "read fault\n"),
-        ("check s a 0", "a = %", schema, "schema 1:5 byte 4 rule X1\n"),
-        ("check s a 0", "a = \"x", schema, "schema 1:5 byte 4 rule X2\n"),
-        ("check s a 0", "a = \"\\x\"", schema, "schema 1:6 byte 5 rule X3\n"),
-        ("check s a 0", "a = 012", schema, "schema 1:5 byte 4 rule X4\n"),
-        ("check s a 0", "a = h'1'", schema, "schema 1:8 byte 7 rule X5\n"),
-        ("check s a 0", "a = b64'AA'", schema, "schema 1:5 byte 4 rule X6\n"),
-        ("check s a 0", "a = [int", schema, "schema 1:9 byte 8 rule P1\n"),
+        (
+            "check s a 0",
+            "a = %",
+            schema,
+            "schema 1:5 byte 4 rule X1\n",
+        ),
+        (
+            "check s a 0",
+            "a = \"x",
+            schema,
+            "schema 1:5 byte 4 rule X2\n",
+        ),
+        (
+            "check s a 0",
+            "a = \"\\x\"",
+            schema,
+            "schema 1:6 byte 5 rule X3\n",
+        ),
+        (
+            "check s a 0",
+            "a = 012",
+            schema,
+            "schema 1:5 byte 4 rule X4\n",
+        ),
+        (
+            "check s a 0",
+            "a = h'1'",
+            schema,
+            "schema 1:8 byte 7 rule X5\n",
+        ),
+        (
+            "check s a 0",
+            "a = b64'AA'",
+            schema,
+            "schema 1:5 byte 4 rule X6\n",
+        ),
+        (
+            "check s a 0",
+            "a = [int",
+            schema,
+            "schema 1:9 byte 8 rule P1\n",
+        ),
         ("check s a 0", "", schema, "schema 1:1 byte 0 rule P1\n"),
-        ("compile s x 0", "x = 5\ny = [", schema, "schema 2:6 byte 11 rule P1\n"),
+        (
+            "compile s x 0",
+            "x = 5\ny = [",
+            schema,
+            "schema 2:6 byte 11 rule P1\n",
+        ),
     ] {
-        answers(rt, row)?;
+        let told = is_answered(rt.alloc(), words, contents, status, line)?;
+        assert!(rt; told, "{contents:?}");
     }
     let broken = call(rt.alloc(), "check s a 0", with_bytes(b"a = \"\xff"))?;
-    assert_eq!(rt; broken.err.as_slice(), b"schema 1:6 byte 5 rule T0\n".as_slice());
+    assert_eq!(rt;
+        broken.err.as_slice(),
+        b"schema 1:6 byte 5 rule T0\n".as_slice()
+    );
     Ok(())
 }
 
@@ -180,7 +234,15 @@ fn the_49th_open_bracket_is_named(rt: HostRuntime) -> Result<(), Fail> {
         schema.push('[')?;
     }
     let line = "schema 1:53 byte 52 rule P2\n";
-    answers(rt, ("check s a 0", schema.as_str(), Status::Schema, line))
+    let told = is_answered(
+        rt.alloc(),
+        "check s a 0",
+        schema.as_str(),
+        Status::Schema,
+        line,
+    )?;
+    assert!(rt; told);
+    Ok(())
 }
 
 #[test]
@@ -191,10 +253,19 @@ fn a_schema_of_the_limit_is_read_and_a_longer_one_is_too_large(
     for _ in 6..262_144 {
         schema.push('-')?;
     }
-    answers(rt, ("check s x 0", schema.as_str(), Status::Done, ""))?;
+    let taken = is_answered(rt.alloc(), "check s x 0", schema.as_str(), Status::Done, "")?;
+    assert!(rt; taken);
     schema.push('-')?;
     let line = "too large: s\n";
-    answers(rt, ("check s x 0", schema.as_str(), Status::TooLarge, line))
+    let told = is_answered(
+        rt.alloc(),
+        "check s x 0",
+        schema.as_str(),
+        Status::TooLarge,
+        line,
+    )?;
+    assert!(rt; told);
+    Ok(())
 }
 
 #[test]

@@ -58,7 +58,9 @@ pub enum Command<'a> {
         steps: u64,
     },
     /// The summary of a sample of so many entries.
-    Sample { entries: u64 },
+    Sample {
+        entries: u64,
+    },
 }
 
 /// Whether the word is the number in decimal digits without a leading zero.
@@ -76,7 +78,10 @@ fn number_in(word: &str, least: u64, most: u64) -> Option<u64>
     let Ok(number) = word.parse::<u64>() else {
         return None;
     };
-    if number < least || most < number {
+    if number < least {
+        return None;
+    }
+    if most < number {
         return None;
     }
     if !is_decimal(word, number) {
@@ -90,7 +95,9 @@ fn schema_words<'a>(file: &'a str, root: &'a str, depth: &str) -> Option<SchemaW
     ensures found { IfSome result (λ schema. (schema_asked schema ≡ asked_schema file.now root.now schema.depth) × (depth.now ≡ decimal schema.depth) × (schema.depth ≤ 32)) }
     ensures none { IfNone result ((levels : ℕ) → levels ≤ 32 → depth.now ≡ decimal levels → ⊥) }
 {
-    let depth = number_in(depth, 0, MOST_DEPTH)?;
+    let Some(depth) = number_in(depth, 0, MOST_DEPTH) else {
+        return None;
+    };
     Some(SchemaWords {
         file,
         root,
@@ -106,7 +113,9 @@ fn check_words(words: &[String]) -> Option<Command<'_>>
     let [file, root, depth] = words else {
         return None;
     };
-    let schema = schema_words(file.as_str(), root.as_str(), depth.as_str())?;
+    let Some(schema) = schema_words(file.as_str(), root.as_str(), depth.as_str()) else {
+        return None;
+    };
     Some(Command::Check(schema))
 }
 
@@ -118,7 +127,9 @@ fn compile_words(words: &[String]) -> Option<Command<'_>>
     let [file, root, depth] = words else {
         return None;
     };
-    let schema = schema_words(file.as_str(), root.as_str(), depth.as_str())?;
+    let Some(schema) = schema_words(file.as_str(), root.as_str(), depth.as_str()) else {
+        return None;
+    };
     Some(Command::Compile(schema))
 }
 
@@ -130,7 +141,9 @@ fn read_words(words: &[String]) -> Option<Command<'_>>
     let [file, root, depth, data] = words else {
         return None;
     };
-    let schema = schema_words(file.as_str(), root.as_str(), depth.as_str())?;
+    let Some(schema) = schema_words(file.as_str(), root.as_str(), depth.as_str()) else {
+        return None;
+    };
     Some(Command::Read {
         schema,
         data: data.as_str(),
@@ -145,8 +158,12 @@ fn write_words(words: &[String]) -> Option<Command<'_>>
     let [file, root, depth, value, cap] = words else {
         return None;
     };
-    let schema = schema_words(file.as_str(), root.as_str(), depth.as_str())?;
-    let cap = number_in(cap.as_str(), 0, MOST_CAP)?;
+    let Some(schema) = schema_words(file.as_str(), root.as_str(), depth.as_str()) else {
+        return None;
+    };
+    let Some(cap) = number_in(cap.as_str(), 0, MOST_CAP) else {
+        return None;
+    };
     Some(Command::Write {
         schema,
         value: value.as_str(),
@@ -162,8 +179,12 @@ fn copy_words(words: &[String]) -> Option<Command<'_>>
     let [file, root, depth, data, cap] = words else {
         return None;
     };
-    let schema = schema_words(file.as_str(), root.as_str(), depth.as_str())?;
-    let cap = number_in(cap.as_str(), 0, MOST_CAP)?;
+    let Some(schema) = schema_words(file.as_str(), root.as_str(), depth.as_str()) else {
+        return None;
+    };
+    let Some(cap) = number_in(cap.as_str(), 0, MOST_CAP) else {
+        return None;
+    };
     Some(Command::Copy {
         schema,
         data: data.as_str(),
@@ -179,7 +200,9 @@ fn run_words(words: &[String]) -> Option<Command<'_>>
     let [file, function, data, steps] = words else {
         return None;
     };
-    let steps = number_in(steps.as_str(), 1, MOST_STEPS)?;
+    let Some(steps) = number_in(steps.as_str(), 1, MOST_STEPS) else {
+        return None;
+    };
     Some(Command::Run {
         file: file.as_str(),
         function: function.as_str(),
@@ -196,7 +219,9 @@ fn sample_words(words: &[String]) -> Option<Command<'_>>
     let [entries] = words else {
         return None;
     };
-    let entries = number_in(entries.as_str(), 1, MOST_ENTRIES)?;
+    let Some(entries) = number_in(entries.as_str(), 1, MOST_ENTRIES) else {
+        return None;
+    };
     Some(Command::Sample { entries })
 }
 

@@ -1,0 +1,29 @@
+use Rattle.std.proofs.Common.{subst}
+use Rattle.ecd_cli.specs.Asked.{Asked, bytes_of}
+use Rattle.ecd_cli.specs.Commands.{asked_by}
+use Rattle.ecd_cli.specs.Causes.{IsDue, Writes, WritesFront}
+use Rattle.ecd_cli.specs.Told.{outcome_of}
+use Rattle.ecd_cli.proofs.Tables.{asks_one}
+use Rattle.ecd_cli.proofs.Due.{decided_due}
+use Rattle.ecd_cli.proofs.run.answer_to.Goals as goal
+
+pub returns-in-Err-clause-due : goal.returns-in-Err-clause-due
+returns-in-Err-clause-due g c = λ decided asked asks.
+    let f = g.F.Files in
+    let own = asked_by c.in-Some.command in
+    subst (λ (a : Asked). IsDue (f.told c.args.files.now) a (outcome_of c.in-Err.answer)) (asks_one (bytes_of c.args.words.now) own asked c.in-Some.ensures.asks asks)
+    (decided_due (f.told c.args.files.now) own (f.faults c.args.files.now) (f.faults c.text_of.new.files) (outcome_of c.in-Err.answer) c.in-Err.ensures.none decided)
+
+pub returns-in-Ok-put_all-clause-done : goal.returns-in-Ok-put_all-clause-done
+returns-in-Ok-put_all-clause-done g c = λ _ asked asks.
+    let own = asked_by c.in-Some.command in
+    subst (λ (a : Asked). Writes (g.F.Files.told c.args.files.now) a (g.O.Sink.written c.args.out.now) (g.O.Sink.written c.put_all.new.sink))
+    (asks_one (bytes_of c.args.words.now) own asked c.in-Some.ensures.asks asks)
+    record { text = c.in-Ok.text; is_text = c.in-Ok.ensures.text; appended = rw c.as_slice.ensures at c.in-Ok-put_all.ensures.all }
+
+pub returns-clause-front : goal.returns-clause-front
+returns-clause-front g c = λ _ asked asks.
+    let own = asked_by c.in-Some.command in
+    subst (λ (a : Asked). WritesFront (g.F.Files.told c.args.files.now) a (g.O.Sink.written c.args.out.now) (g.O.Sink.written c.put_all.new.sink))
+    (asks_one (bytes_of c.args.words.now) own asked c.in-Some.ensures.asks asks)
+    record { text = c.in-Ok.text; is_text = c.in-Ok.ensures.text; front = rw c.as_slice.ensures at c.in-Err-put_all.ensures.front }
