@@ -1,6 +1,5 @@
 pub mod Kept
 pub mod Depth
-pub mod Built
 pub mod Layers
 pub mod Calculus
 pub mod Rules

@@ -259,6 +259,43 @@ longest_from chains most (AFunction f ∷ is) =
 abbrev pub call_depth_of : List CItem → ℕ
 call_depth_of items = longest_from (λ g. 0) 0 items
 
+-- ---- the variables of a chain of calls
+
+-- how many variables a statement declares, those inside counted
+abbrev mutual
+  pub declared_by : Stmt → ℕ
+  declared_by (DeclNumber x e) = 1
+  declared_by (DeclPointer x e) = 1
+  declared_by (Assign x e) = 0
+  declared_by (Store x i e) = 0
+  declared_by (SetCell x c e) = 0
+  declared_by (If' t s ys u ns) = declared_in ys + declared_in ns
+  declared_by (For' x b s body) = 1 + declared_in body
+  declared_by (Return e) = 0
+
+  pub declared_in : {n : _} → Row_of-Stmt n → ℕ
+  declared_in end_of-Stmt = 0
+  declared_in (more_of-Stmt s rest) = declared_by s + declared_in rest
+
+abbrev pub block_declares : List Stmt → ℕ
+block_declares [] = 0
+block_declares (s ∷ rest) = declared_by s + block_declares rest
+
+-- the variables and parameters of a function
+abbrev pub variables_of : Function → ℕ
+variables_of f = length f.params + block_declares f.body
+
+-- the most of any chain of calls, where each function of a chain counts by its weight
+abbrev pub heaviest_from : (Function → ℕ) → Chains → ℕ → List CItem → ℕ
+heaviest_from weight chains most [] = most
+heaviest_from weight chains most (AStructDecl s ∷ is) = heaviest_from weight chains most is
+heaviest_from weight chains most (AFunction f ∷ is) =
+    let here : ℕ = weight f + block_chain chains f.body in heaviest_from weight (with_chain f.name here chains) (max most here) is
+
+-- the most variables and parameters that the functions of one chain of calls have together
+abbrev pub spaces_of : List CItem → ℕ
+spaces_of items = heaviest_from variables_of (λ g. 0) 0 items
+
 -- ---- programs
 
 abbrev pub depth_fault : Program → List Fault

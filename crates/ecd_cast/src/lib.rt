@@ -3,6 +3,7 @@
 
 pub mod build;
 pub mod builder;
+mod chains;
 pub mod laws;
 pub mod tree;
 pub mod value;
