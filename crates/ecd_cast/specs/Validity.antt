@@ -1,5 +1,5 @@
 -- The rules C1 to C7, and where a program breaks them.
-use Rattle.std.specs.Prelude.{ℕ, ◌+◌, ◌≡◌, ◌<◌, ◌⊎◌, Bool, true, false, not, ◌&&◌, ◌||◌, if◌then◌else◌, List, [], ◌∷◌, ◌++◌, flat_map, map, Contains, Option, Some, None, bytes_eq, nat_eq, length, max}
+use Rattle.std.specs.Prelude.{ℕ, ◌+◌, ◌≡◌, ◌<◌, ◌⊎◌, Bool, true, false, not, ◌&&◌, if◌then◌else◌, List, [], ◌∷◌, ◌++◌, flat_map, map, Contains, Option, Some, None, bytes_eq, nat_eq, length, max}
 use Rattle.std.specs.List.{list_any}
 use Rattle.ecd_cast.specs.declared.tree.Expr.{Expr}
 use Rattle.ecd_cast.specs.declared.tree.Source.{Source}
@@ -324,37 +324,3 @@ pub record IsFirstFault (p : Program) (f : Fault) : Type 0 where
 -- whether an item is valid behind these items
 pub record IsValidAfter (before : List CItem) (item : CItem) : Type 0 where
   pub sound : item_faults before item (item ∷ []) (length before) ≡ []
-
--- ---- items without calls
-
-abbrev pub source_calls : Source → Bool
-source_calls (FromValue e) = false
-source_calls (FromCall g args) = true
-
-abbrev mutual
-  pub stmt_calls : Stmt → Bool
-  stmt_calls (DeclNumber x e) = source_calls e
-  stmt_calls (DeclPointer x e) = false
-  stmt_calls (Assign x e) = source_calls e
-  stmt_calls (Store x i e) = false
-  stmt_calls (SetCell x c e) = false
-  stmt_calls (If' t s ys u ns) = row_calls ys || row_calls ns
-  stmt_calls (For' x b s body) = row_calls body
-  stmt_calls (Return e) = false
-
-  pub row_calls : {n : _} → Row_of-Stmt n → Bool
-  row_calls end_of-Stmt = false
-  row_calls (more_of-Stmt s rest) = stmt_calls s || row_calls rest
-
-abbrev pub block_calls : List Stmt → Bool
-block_calls [] = false
-block_calls (s ∷ rest) = stmt_calls s || block_calls rest
-
--- whether an item holds a call
-abbrev pub item_calls : CItem → Bool
-item_calls (AStructDecl s) = false
-item_calls (AFunction f) = block_calls f.body
-
-abbrev pub items_call : List CItem → Bool
-items_call [] = false
-items_call (i ∷ is) = item_calls i || items_call is
