@@ -1,5 +1,7 @@
 pub mod Kept
-pub mod Depth
+pub mod Heaviest
+pub mod Lookup
+pub mod Names
 pub mod Built
 pub mod Layers
 pub mod Calculus

@@ -5,6 +5,8 @@ pub mod Kinds
 pub mod Validity
 pub mod Lexemes
 pub mod Spelling
+pub mod Chains
+pub mod Lookup
 pub mod Built
 pub mod Ends
 pub mod Kept
