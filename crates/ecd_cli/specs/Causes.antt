@@ -1,60 +1,21 @@
 -- Why a call ends as it does: what the words and the contents of their files make due.
-use Rattle.std.specs.Prelude.{◌≡◌, ◌≤◌, ◌+◌, ◌⊎◌, ℕ, List, [], ◌∷◌, codes, Option, Some, IsSome, length, ⊤}
+use Rattle.std.specs.Prelude.{◌≡◌, ◌⊎◌, ℕ, List, [], ◌∷◌, codes, Option, ⊤}
 use Rattle.std.specs.Io.KnownBytes.{append_known}
 use Rattle.ecd_outside.specs.Causes.{IsFaultFree, Rose}
-use Rattle.ecd_outside.specs.Told.{Told, IsContents, IsLonger, IsMissing, MayFail, TakesAtMost, AppendsFront}
-use Rattle.ecd_outside.specs.declared.whole.ReadRefusal.{ReadRefusal}
-use Rattle.ecd_outside.specs.declared.whole.ReadRefusal.TheVariants as reads
+use Rattle.ecd_outside.specs.Told.{Told, IsLonger, MayFail, AppendsFront}
 use Rattle.ecd_lex.specs.Places.{line_of as line_at, column_of as column_at}
+use Rattle.ecd_syntax.specs.declared.tree.Tree.{Tree}
 use Rattle.ecd_compile.specs.declared.refusal.Refusal.{Refusal}
 use Rattle.ecd_compile.specs.declared.refusal.Refusal.TheVariants as refusals
-use Rattle.ecd_compile.specs.Schema.{IsTold, HasCause}
+use Rattle.ecd_compile.specs.Schema.{IsSchema, IsTold, HasCause}
+use Rattle.ecd_compile.specs.Thin.{IsThin}
 use Rattle.ecd_compile.specs.Reads.{IsCompiled}
 use Rattle.ecd_cast.specs.declared.tree.Program.{Program}
-use Rattle.ecd_cli.specs.Asked.{Asked, SchemaAsked, check, compile, read, write, copy, run, sample}
-use Rattle.ecd_cli.specs.Outcomes.{Outcome, RuleName, Done, Broken, Usage, ReadFault, WriteFault, TooLarge, OutOfMemory, NotBuilt}
+use Rattle.ecd_cli.specs.Asked.{Asked, check, compile, read, write, copy, run, sample}
+use Rattle.ecd_cli.specs.Files.{Wanted, files_of, AreRead, IsTooLarge, IsOneMissing}
+use Rattle.ecd_cli.specs.Outcomes.{Outcome, RuleName, Done, NoEncoding, Broken, Usage, ReadFault, WriteFault, TooLarge, OutOfMemory, NoSpelling, BreaksC, Stuck, Spent, NoFunction, NotBuilt}
 use Rattle.ecd_cli.specs.declared.status.Status.{Status}
 use Rattle.ecd_cli.specs.declared.status.Status.TheVariants as statuses
-
--- ---- files
-
--- a file that is read: its name, and the most bytes that it may have
-pub record Wanted : Type 0 where
-  pub name : List ℕ
-  pub limit : ℕ
-
-abbrev pub schema_wanted : SchemaAsked → Wanted
-schema_wanted s = record { name = s.file; limit = 262144 }
-
--- the files of a command, in the order in which they are read; none where the command is not built
-abbrev pub files_of : Asked → List Wanted
-files_of (check s) = schema_wanted s ∷ []
-files_of (compile s) = schema_wanted s ∷ []
-files_of (read s d) = []
-files_of (write s v cap) = []
-files_of (copy s d cap) = []
-files_of (run c f d steps) = []
-files_of (sample n) = []
-
--- where contents are told, the bytes are those of the file, and no more than it may have
-pub record IsRead (told : Told) (file : Wanted) (bytes : List ℕ) : Type 0 where
-  pub contents : IsContents told file.name bytes
-  pub within : length bytes ≤ file.limit
-
--- the first file that is not read has more bytes than it may have, and it is that of the name
-abbrev pub IsTooLarge : Told → List Wanted → List ℕ → Type 0
-IsTooLarge told [] name = ⊥
-IsTooLarge told (f ∷ fs) name = ((name ≡ f.name) × IsLonger told f.name f.limit) ⊎ ((bytes : List ℕ) × IsRead told f bytes × IsTooLarge told fs name)
-
--- contents are told, and the first file that is not read is not there
-abbrev pub IsOneMissing : Told → List Wanted → Type 0
-IsOneMissing told [] = ⊥
-IsOneMissing told (f ∷ fs) = IsMissing told f.name ⊎ ((bytes : List ℕ) × IsRead told f bytes × IsOneMissing told fs)
-
--- of the file that was begun last at most one byte more was taken than it may have
-abbrev pub TakesFew : Told → List Wanted → Option (List ℕ) → Type 0
-TakesFew told [] left = ⊥
-TakesFew told (f ∷ fs) left = TakesAtMost told f.name left (f.limit + 1) ⊎ TakesFew told fs left
 
 -- ---- schemas
 
@@ -69,78 +30,123 @@ outcome_of_refusal schema (refusals.Parse place rule) = broken schema place (cod
 outcome_of_refusal schema refusals.NotBuilt = NotBuilt
 outcome_of_refusal schema refusals.OutOfMemory = OutOfMemory
 
--- what the refusal of a file is answered by
-abbrev pub outcome_of_unread : List ℕ → ReadRefusal → Outcome
-outcome_of_unread name reads.Fault = ReadFault
-outcome_of_unread name reads.TooLarge = TooLarge name
-outcome_of_unread name reads.OutOfMemory = OutOfMemory
-
--- the file's schema is refused for this
-pub record IsRefused (told : Told) (s : SchemaAsked) (outcome : Outcome) : Type 0 where
-  pub schema : List ℕ
+-- the schema is refused for this
+pub record IsRefused (schema root : List ℕ) (outcome : Outcome) : Type 0 where
   pub refusal : Refusal
-  pub is_read : IsRead told (schema_wanted s) schema
-  pub cause : HasCause schema s.root refusal
-  pub is_told : IsTold refusal
+  pub cause : HasCause schema root refusal
+  pub names_cause : IsTold refusal
   pub is : outcome ≡ outcome_of_refusal schema refusal
 
--- the file's schema is compiled to the text
-pub record IsTaken (told : Told) (s : SchemaAsked) (text : List ℕ) : Type 0 where
-  pub schema : List ℕ
+-- the schema is compiled to the text
+pub record IsCompiledTo (schema root text : List ℕ) : Type 0 where
   pub program : Program
-  pub is_read : IsRead told (schema_wanted s) schema
-  pub compiled : IsCompiled schema s.root text program
+  pub compiled : IsCompiled schema root text program
 
--- Why a schema's file is not compiled. The counts are those of the faults of files.
-abbrev pub HasNoSchema : Told → SchemaAsked → ℕ → ℕ → Outcome → Type 0
-HasNoSchema told s before now Done = ⊥
-HasNoSchema told s before now (Broken line column place rule) = IsRefused told s (Broken line column place rule)
-HasNoSchema told s before now Usage = ⊥
-HasNoSchema told s before now ReadFault = MayFail told s.file before now
-HasNoSchema told s before now WriteFault = ⊥
-HasNoSchema told s before now (TooLarge name) = (name ≡ s.file) × IsLonger told s.file 262144
-HasNoSchema told s before now OutOfMemory = ⊤
-HasNoSchema told s before now NotBuilt = IsRefused told s NotBuilt
+-- ---- data: the schemas that are taken so far are one small number
 
--- ---- commands
+-- the schema's root holds this one number
+pub record IsNumber (schema root : List ℕ) (number : ℕ) : Type 0 where
+  pub tree : Tree
+  pub parsed : IsSchema schema tree
+  pub thin : IsThin tree root number
 
--- what is asked for is refused for this, once its files are read
-abbrev pub IsDenied : Told → Asked → Outcome → Type 0
-IsDenied told (check s) outcome = IsRefused told s outcome
-IsDenied told (compile s) outcome = IsRefused told s outcome
-IsDenied told (read s d) outcome = outcome ≡ NotBuilt
-IsDenied told (write s v cap) outcome = outcome ≡ NotBuilt
-IsDenied told (copy s d cap) outcome = outcome ≡ NotBuilt
-IsDenied told (run c f d steps) outcome = outcome ≡ NotBuilt
-IsDenied told (sample n) outcome = outcome ≡ NotBuilt
+abbrev pub IsAnyNumber : List ℕ → List ℕ → Type 0
+IsAnyNumber schema root = (number : ℕ) × IsNumber schema root number
+
+-- the data begin with the number's encoding, which is one byte
+abbrev pub BeginsWith : ℕ → List ℕ → Type 0
+BeginsWith number [] = ⊥
+BeginsWith number (byte ∷ bytes) = byte ≡ number
+
+abbrev pub BeginWithItem : List ℕ → List ℕ → List ℕ → Type 0
+BeginWithItem schema root input = (number : ℕ) × IsNumber schema root number × BeginsWith number input
+
+abbrev pub BeginWithNone : List ℕ → List ℕ → List ℕ → Type 0
+BeginWithNone schema root input = (number : ℕ) × IsNumber schema root number × (BeginsWith number input → ⊥)
+
+-- ---- commands over the contents of their files
+
+abbrev pub OfOne : List (List ℕ) → (List ℕ → Type 0) → Type 0
+OfOne (first ∷ []) P = P first
+OfOne _ P = ⊥
+
+abbrev pub OfTwo : List (List ℕ) → (List ℕ → List ℕ → Type 0) → Type 0
+OfTwo (first ∷ second ∷ []) P = P first second
+OfTwo _ P = ⊥
+
+-- what is asked for over these contents is refused for this
+abbrev pub IsDenied : Asked → List (List ℕ) → Outcome → Type 0
+IsDenied (check s) contents outcome = OfOne contents (λ schema. IsRefused schema s.root outcome)
+IsDenied (compile s) contents outcome = OfOne contents (λ schema. IsRefused schema s.root outcome)
+IsDenied (read s d) contents outcome = outcome ≡ NotBuilt
+IsDenied (write s v cap) contents outcome = outcome ≡ NotBuilt
+IsDenied (copy s d cap) contents outcome = outcome ≡ NotBuilt
+IsDenied (run c f d steps) contents outcome = outcome ≡ NotBuilt
+IsDenied (sample n) contents outcome = outcome ≡ NotBuilt
+
+-- what is asked for over these contents has a text
+abbrev pub IsAccepted : Asked → List (List ℕ) → Type 0
+IsAccepted (check s) contents = OfOne contents (λ schema. IsAnyNumber schema s.root)
+IsAccepted (compile s) contents = OfOne contents (λ schema. IsAnyNumber schema s.root)
+IsAccepted (read s d) contents = ⊥
+IsAccepted (write s v cap) contents = ⊥
+IsAccepted (copy s d cap) contents = ⊥
+IsAccepted (run c f d steps) contents = ⊥
+IsAccepted (sample n) contents = ⊥
+
+-- what is asked for over these contents is this text
+abbrev pub IsTextOver : Asked → List (List ℕ) → List ℕ → Type 0
+IsTextOver (check s) contents text = OfOne contents (λ schema. IsAnyNumber schema s.root × (text ≡ codes "ok\n"))
+IsTextOver (compile s) contents text = OfOne contents (λ schema. IsCompiledTo schema s.root text)
+IsTextOver (read s d) contents text = ⊥
+IsTextOver (write s v cap) contents text = ⊥
+IsTextOver (copy s d cap) contents text = ⊥
+IsTextOver (run c f d steps) contents text = ⊥
+IsTextOver (sample n) contents text = ⊥
 
 -- a file is too large
-abbrev pub IsTooLargeFor : Told → Asked → Outcome → Type 0
-IsTooLargeFor told asked outcome = (name : List ℕ) × (outcome ≡ TooLarge name) × IsTooLarge told (files_of asked) name
+pub record IsTooLargeFor (told : Told) (asked : Asked) (outcome : Outcome) : Type 0 where
+  pub name : List ℕ
+  pub is : outcome ≡ TooLarge name
+  pub large : IsTooLarge told (files_of asked) name
+
+-- the files are read, and what is asked for is refused
+pub record IsDeniedFor (told : Told) (asked : Asked) (outcome : Outcome) : Type 0 where
+  pub contents : List (List ℕ)
+  pub are_read : AreRead told (files_of asked) contents
+  pub denied : IsDenied asked contents outcome
 
 -- the words and the contents of their files ask for this refusal
 abbrev pub IsDue : Told → Asked → Outcome → Type 0
-IsDue told asked outcome = IsTooLargeFor told asked outcome ⊎ IsDenied told asked outcome
+IsDue told asked outcome = IsTooLargeFor told asked outcome ⊎ IsDeniedFor told asked outcome
 
 -- the words and the contents of their files ask for this text
-abbrev pub IsText : Told → Asked → List ℕ → Type 0
-IsText told (check s) text = (c_text : List ℕ) × IsTaken told s c_text × (text ≡ codes "ok\n")
-IsText told (compile s) text = IsTaken told s text
-IsText told (read s d) text = ⊥
-IsText told (write s v cap) text = ⊥
-IsText told (copy s d cap) text = ⊥
-IsText told (run c f d steps) text = ⊥
-IsText told (sample n) text = ⊥
+pub record IsText (told : Told) (asked : Asked) (text : List ℕ) : Type 0 where
+  pub contents : List (List ℕ)
+  pub are_read : AreRead told (files_of asked) contents
+  pub is : IsTextOver asked contents text
+
+-- the words and the contents of their files ask for a text
+pub record IsAcceptedFor (told : Told) (asked : Asked) : Type 0 where
+  pub contents : List (List ℕ)
+  pub are_read : AreRead told (files_of asked) contents
+  pub accepted : IsAccepted asked contents
 
 -- a refusal that the words and the contents of their files decide
 abbrev pub IsDecided : Outcome → Type 0
 IsDecided Done = ⊥
+IsDecided NoEncoding = ⊤
 IsDecided (Broken line column place rule) = ⊤
 IsDecided Usage = ⊥
 IsDecided ReadFault = ⊥
 IsDecided WriteFault = ⊥
 IsDecided (TooLarge name) = ⊤
 IsDecided OutOfMemory = ⊥
+IsDecided (NoSpelling place) = ⊤
+IsDecided (BreaksC rule item statement) = ⊤
+IsDecided (Stuck reason item statement) = ⊤
+IsDecided (Spent steps) = ⊤
+IsDecided (NoFunction name) = ⊤
 IsDecided NotBuilt = ⊤
 
 -- reading may fail: the count of faults rose, or stands at its last value, or the first file that is not read is not there
@@ -148,23 +154,29 @@ abbrev pub MayFailToRead : Told → Asked → ℕ → ℕ → Type 0
 MayFailToRead told asked before now = Rose before now ⊎ IsOneMissing told (files_of asked)
 
 -- Why there is no text to write. The counts are those of the faults of files.
-abbrev pub HasNoText : Told → Asked → ℕ → ℕ → Outcome → Type 0
-HasNoText told asked before now Done = ⊥
-HasNoText told asked before now (Broken line column place rule) = IsDue told asked (Broken line column place rule)
-HasNoText told asked before now Usage = ⊥
-HasNoText told asked before now ReadFault = MayFailToRead told asked before now
-HasNoText told asked before now WriteFault = ⊥
-HasNoText told asked before now (TooLarge name) = IsDue told asked (TooLarge name)
-HasNoText told asked before now OutOfMemory = ⊤
-HasNoText told asked before now NotBuilt = IsDue told asked NotBuilt
+pub record HasNoText (told : Told) (asked : Asked) (before now : ℕ) (outcome : Outcome) : Type 0 where
+  pub not_done : outcome ≡ Done → ⊥
+  pub not_usage : outcome ≡ Usage → ⊥
+  pub not_write : outcome ≡ WriteFault → ⊥
+  pub fault : outcome ≡ ReadFault → MayFailToRead told asked before now
+  pub due : IsDecided outcome → IsDue told asked outcome
+
+-- Why a file is not read. The counts are those of the faults of files.
+abbrev pub IsUnread : Told → Wanted → ℕ → ℕ → Outcome → Type 0
+IsUnread told file before now outcome =
+    (outcome ≡ OutOfMemory) ⊎ (((outcome ≡ ReadFault) × MayFail told file.name before now) ⊎ ((outcome ≡ TooLarge file.name) × IsLonger told file.name file.limit))
+
+-- want of memory, or the schema is refused
+abbrev pub IsRefusedOrWants : List ℕ → List ℕ → Outcome → Type 0
+IsRefusedOrWants schema root outcome = (outcome ≡ OutOfMemory) ⊎ IsRefused schema root outcome
 
 -- ---- what is written
 
--- what is written stays as it was, but for a status that writes: the text was written, or a fault came while it was
-abbrev pub KeepsOut : Status → Option (List ℕ) → Option (List ℕ) → Type 0
-KeepsOut statuses.Done before now = ⊤
-KeepsOut statuses.WriteFault before now = ⊤
-KeepsOut status before now = now ≡ before
+-- a status that writes to the output: the text was written, or a fault came while it was
+abbrev pub MayWrite : Status → Type 0
+MayWrite statuses.Done = ⊤
+MayWrite statuses.WriteFault = ⊤
+MayWrite status = ⊥
 
 -- such a text was written
 pub record Writes (told : Told) (asked : Asked) (before now : Option (List ℕ)) : Type 0 where

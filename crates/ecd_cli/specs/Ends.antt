@@ -2,7 +2,7 @@
 use Rattle.std.specs.Prelude.{◌≡◌, ◌⊎◌, ℕ, List, Option, Some}
 use Rattle.ecd_cli.specs.Asked.{Asked, ForAsked}
 use Rattle.ecd_cli.specs.Outcomes.{Outcome, status_of, line_of}
-use Rattle.ecd_cli.specs.Causes.{IsDecided, IsDue, IsText, TellsLine}
+use Rattle.ecd_cli.specs.Causes.{IsDecided, IsDue, IsAcceptedFor, TellsLine}
 use Rattle.ecd_cli.specs.declared.status.Status.{Status}
 use Rattle.ecd_outside.specs.Told.{Told}
 
@@ -16,4 +16,4 @@ pub record Ended (words : List (List ℕ)) (told : Told) (status : Status) (befo
 -- words and told contents ask for one refusal at most, and for none where they ask for a text
 pub record OneIsDue : Type 0 where
   pub one : (contents : List ℕ → Option (List ℕ)) (asked : Asked) (one other : Outcome) → IsDue (Some contents) asked one → IsDue (Some contents) asked other → one ≡ other
-  pub none : (contents : List ℕ → Option (List ℕ)) (asked : Asked) (one : Outcome) (text : List ℕ) → IsDue (Some contents) asked one → IsText (Some contents) asked text → ⊥
+  pub none : (contents : List ℕ → Option (List ℕ)) (asked : Asked) (one : Outcome) → IsDue (Some contents) asked one → IsAcceptedFor (Some contents) asked → ⊥

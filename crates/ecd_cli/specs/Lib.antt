@@ -1,6 +1,7 @@
 pub mod Asked
 pub mod Commands
 pub mod Outcomes
+pub mod Files
 pub mod Causes
 pub mod Ends
-pub mod Told
+pub mod Answers

@@ -3,7 +3,7 @@
 ghost use Rattle.std.specs.Prelude.{◌≡◌, ◌≤◌, IfOk, IfErr};
 ghost use Rattle.ecd_cli.specs.Outcomes.{status_of, line_of};
 ghost use Rattle.ecd_cli.specs.Causes.{TellsLine};
-ghost use Rattle.ecd_cli.specs.Told.{outcome_of, bytes_in, HasDetail};
+ghost use Rattle.ecd_cli.specs.Answers.{outcome_of, bytes_in, HasDetail};
 
 use crate::status::Status;
 use ecd_list::OutOfMemory;
@@ -15,6 +15,8 @@ use std::alloc::Global;
 pub enum Answer<'a> {
     /// What was asked for was written.
     Done,
+    /// The data begins with no item of the root.
+    NoEncoding,
     /// The schema breaks the rule at the place, a byte's offset. Lines and columns count from 1.
     Broken {
         line: u32,
@@ -35,6 +37,20 @@ pub enum Answer<'a> {
     },
     /// Want of memory.
     OutOfMemory,
+    /// The C file is no spelling of a program: the first place of fault.
+    NoSpelling { place: u32 },
+    /// The C file breaks a rule of the subset, C1 to C7, in a statement of an item.
+    BreaksC { rule: u8, item: u32, statement: u32 },
+    /// The run is stuck at a statement of an item.
+    Stuck {
+        reason: u8,
+        item: u32,
+        statement: u32,
+    },
+    /// The run takes more steps than it may.
+    Spent { steps: u64 },
+    /// The C file has no function of that name with a reader's parameters.
+    NoFunction { name: &'a str },
     /// What is asked for is not built.
     NotBuilt,
 }
@@ -46,12 +62,17 @@ impl Answer<'_> {
     {
         match *self {
             Answer::Done => Status::Done,
+            Answer::NoEncoding => Status::Refused,
             Answer::Broken { .. } => Status::Schema,
             Answer::Usage => Status::Usage,
             Answer::ReadFault => Status::ReadFault,
             Answer::WriteFault => Status::WriteFault,
             Answer::TooLarge { .. } => Status::TooLarge,
             Answer::OutOfMemory => Status::OutOfMemory,
+            Answer::NoSpelling { .. } | Answer::BreaksC { .. } => Status::CFile,
+            Answer::Stuck { .. } => Status::Stuck,
+            Answer::Spent { .. } => Status::Spent,
+            Answer::NoFunction { .. } => Status::NoFunction,
             Answer::NotBuilt => Status::NotBuilt,
         }
     }
@@ -74,6 +95,7 @@ pub fn line_for(alloc: Global, answer: &Answer<'_>) -> Result<Line, OutOfMemory>
 {
     match *answer {
         Answer::Done => Ok(Line::Fixed("")),
+        Answer::NoEncoding => Ok(Line::Fixed("refused: no encoding\n")),
         Answer::Broken {
             line,
             column,
@@ -88,6 +110,27 @@ pub fn line_for(alloc: Global, answer: &Answer<'_>) -> Result<Line, OutOfMemory>
         Answer::WriteFault => Ok(Line::Fixed("write fault\n")),
         Answer::TooLarge { name } => Ok(Line::Made(format!(in alloc; "too large: {name}\n")?)),
         Answer::OutOfMemory => Ok(Line::Fixed(OUT_OF_MEMORY)),
+        Answer::NoSpelling { place } => Ok(Line::Made(
+            format!(in alloc; "c file rule C0 byte {place}\n")?,
+        )),
+        Answer::BreaksC {
+            rule,
+            item,
+            statement,
+        } => Ok(Line::Made(
+            format!(in alloc; "c file rule C{rule} item {item} statement {statement}\n")?,
+        )),
+        Answer::Stuck {
+            reason,
+            item,
+            statement,
+        } => Ok(Line::Made(
+            format!(in alloc; "stuck {reason} item {item} statement {statement}\n")?,
+        )),
+        Answer::Spent { steps } => Ok(Line::Made(format!(in alloc; "spent {steps}\n")?)),
+        Answer::NoFunction { name } => Ok(Line::Made(
+            format!(in alloc; "no function {name}\n")?,
+        )),
         Answer::NotBuilt => Ok(Line::Fixed("not built\n")),
     }
 }

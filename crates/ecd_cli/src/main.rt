@@ -2,8 +2,11 @@
 #![tactic(auto)]
 
 pub mod answer;
+pub mod commands;
+pub mod contents;
 pub mod laws;
 pub mod run;
+pub mod schemas;
 pub mod status;
 pub mod words;
 

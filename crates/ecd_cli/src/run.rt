@@ -1,119 +1,21 @@
 //! The program as a call on the outside that it is handed.
 
-ghost use Rattle.std.specs.Prelude.{◌≡◌, ◌≢◌, ◌≤◌, ◌⊎◌, ◌↔◌, ℕ, List, [], ◌∷◌, true, IfOk, IfErr, IsSome, length};
+ghost use Rattle.std.specs.Prelude.{◌≡◌, ◌≢◌, ◌≤◌, ◌⊎◌, ◌↔◌, ℕ, List, [], true, IsSome};
 ghost use Rattle.ecd_outside.specs.Causes.{Rose, IsFaultFree};
-ghost use Rattle.ecd_cli.specs.Asked.{Asked, IsInTable, IsInRange, ForAsked, bytes_of};
-ghost use Rattle.ecd_cli.specs.Commands.{asked_by, schema_asked};
+ghost use Rattle.ecd_cli.specs.Asked.{Asked, IsInTable, ForAsked, bytes_of};
 ghost use Rattle.ecd_cli.specs.Outcomes.{Outcome, status_of, Done as DoneOutcome, Usage as UsageOutcome, ReadFault as ReadFaultOutcome, WriteFault as WriteFaultOutcome};
-ghost use Rattle.ecd_cli.specs.Causes.{schema_wanted, files_of, IsTaken, IsDue, IsText, IsDecided, MayFailToRead, HasNoText, HasNoSchema, TakesFew, broken as broken_at, outcome_of_refusal, outcome_of_unread, KeepsOut, Writes, WritesFront};
+ghost use Rattle.ecd_cli.specs.Files.{files_of, TakesFew};
+ghost use Rattle.ecd_cli.specs.Causes.{IsDue, IsAcceptedFor, IsDecided, MayFailToRead, MayWrite, Writes, WritesFront};
 ghost use Rattle.ecd_cli.specs.Ends.{Ended};
-ghost use Rattle.ecd_cli.specs.Told.{outcome_of};
-ghost use Rattle.ecd_compile.specs.Schema.{StandsWithin};
+ghost use Rattle.ecd_cli.specs.Answers.{outcome_of};
 
 use crate::answer::{Answer, Line, OUT_OF_MEMORY, line_for, tell};
+use crate::commands::text_of;
 use crate::status::Status;
-use crate::words::{Command, SchemaWords, command_in};
-use ecd_compile::{Compiled, Refusal, compile};
-use ecd_lex::{MOST_BYTES, line_column};
-use ecd_list::{ByteList, OutOfMemory};
-use ecd_outside::{Failed, Files, ReadRefusal, Sink, put_all, read_file};
+use crate::words::command_in;
+use ecd_list::OutOfMemory;
+use ecd_outside::{Failed, Files, Sink, put_all};
 use std::alloc::Global;
-
-/// The answer to a schema that breaks a rule.
-fn broken(schema: &[u8], place: u32, letter: &'static str, rule: u8) -> Answer<'static>
-    requires short { length schema.now ≤ MOST_BYTES }
-    requires within { place ≤ length schema.now }
-    ensures { outcome_of result ≡ broken_at schema.now place letter.now rule }
-{
-    let (line, column) = line_column(schema, place);
-    Answer::Broken {
-        line,
-        column,
-        place,
-        letter,
-        rule,
-    }
-}
-
-/// The answer to a schema that is refused.
-fn refused(schema: &[u8], refusal: Refusal) -> Answer<'static>
-    requires short { length schema.now ≤ MOST_BYTES }
-    requires within { StandsWithin (length schema.now) refusal }
-    ensures { outcome_of result ≡ outcome_of_refusal schema.now refusal }
-{
-    match refusal {
-        Refusal::NotUtf8 { place } => broken(schema, place, "T", 0),
-        Refusal::Lex { place, rule } => broken(schema, place, "X", rule),
-        Refusal::Parse { place, rule } => broken(schema, place, "P", rule),
-        Refusal::NotBuilt => Answer::NotBuilt,
-        Refusal::OutOfMemory => Answer::OutOfMemory,
-    }
-}
-
-/// The answer to a file that is not read.
-fn unread(name: &str, refusal: ReadRefusal) -> Answer<'_>
-    ensures { outcome_of result ≡ outcome_of_unread name.now refusal }
-{
-    match refusal {
-        ReadRefusal::Fault => Answer::ReadFault,
-        ReadRefusal::TooLarge => Answer::TooLarge { name },
-        ReadRefusal::OutOfMemory => Answer::OutOfMemory,
-    }
-}
-
-/// The compiled schema of a file.
-fn compile_file<'a, F: Files>(
-    alloc: Global,
-    words: &SchemaWords<'a>,
-    files: &mut F,
-) -> Result<Compiled, Answer<'a>>
-    requires { words.now.depth ≤ 32 }
-    ensures taken { IfOk result (λ compiled. IsTaken (F.told files.old) (schema_asked words.now) compiled.text) }
-    ensures refused { IfErr result (λ answer. HasNoSchema (F.told files.old) (schema_asked words.now) (F.faults files.old) (F.faults files.new) (outcome_of answer)) }
-    ensures few { F.begun files.new ≡ true → TakesFew (F.told files.old) (schema_wanted (schema_asked words.now) ∷ []) (F.left files.new) }
-    ensures told { F.told files.new ≡ F.told files.old }
-    ensures later { F.faults files.old ≤ F.faults files.new }
-{
-    let schema = match read_file(alloc, files, words.file, MOST_BYTES) {
-        Ok(schema) => schema,
-        Err(refusal) => return Err(unread(words.file, refusal)),
-    };
-    match compile(alloc, schema.as_slice(), words.root, words.depth) {
-        Ok(compiled) => Ok(compiled),
-        Err(refusal) => Err(refused(schema.as_slice(), refusal)),
-    }
-}
-
-/// The text that the words ask for.
-fn text_of<'a, F: Files>(
-    alloc: Global,
-    command: &Command<'a>,
-    files: &mut F,
-) -> Result<ByteList, Answer<'a>>
-    requires { IsInRange (asked_by command.now) }
-    ensures text { IfOk result (λ text. IsText (F.told files.old) (asked_by command.now) text) }
-    ensures none { IfErr result (λ answer. HasNoText (F.told files.old) (asked_by command.now) (F.faults files.old) (F.faults files.new) (outcome_of answer)) }
-    ensures untouched { files_of (asked_by command.now) ≡ [] → files.new ≡ files.old }
-    ensures few { files_of (asked_by command.now) ≢ [] → F.begun files.new ≡ true → TakesFew (F.told files.old) (files_of (asked_by command.now)) (F.left files.new) }
-    ensures told { F.told files.new ≡ F.told files.old }
-    ensures later { F.faults files.old ≤ F.faults files.new }
-{
-    match *command {
-        Command::Check(words) => {
-            let _compiled = compile_file(alloc, &words, files)?;
-            match ByteList::from_slice(alloc, b"ok\n") {
-                Ok(text) => Ok(text),
-                Err(OutOfMemory) => Err(Answer::OutOfMemory),
-            }
-        }
-        Command::Compile(words) => Ok(compile_file(alloc, &words, files)?.text),
-        Command::Read { .. }
-        | Command::Write { .. }
-        | Command::Copy { .. }
-        | Command::Run { .. }
-        | Command::Sample { .. } => Err(Answer::NotBuilt),
-    }
-}
 
 /// Does what the words ask for.
 fn answer_to<'a, F: Files, O: Sink>(
@@ -133,7 +35,7 @@ fn answer_to<'a, F: Files, O: Sink>(
         → ForAsked (bytes_of words.now) (λ asked. WritesFront (F.told files.old) asked (O.written out.old) (O.written out.new)) }
     ensures done { outcome_of result ≡ DoneOutcome
         → ForAsked (bytes_of words.now) (λ asked. Writes (F.told files.old) asked (O.written out.old) (O.written out.new)) }
-    ensures keeps { KeepsOut (status_of (outcome_of result)) (O.written out.old) (O.written out.new) }
+    ensures keeps { ¬ MayWrite (status_of (outcome_of result)) → out.new ≡ out.old }
     ensures untouched { ForAsked (bytes_of words.now) (λ asked. files_of asked ≡ [] → files.new ≡ files.old) }
     ensures few { ForAsked (bytes_of words.now) (λ asked. files_of asked ≢ [] → F.begun files.new ≡ true → TakesFew (F.told files.old) (files_of asked) (F.left files.new)) }
     ensures told { F.told files.new ≡ F.told files.old }
@@ -170,7 +72,7 @@ pub fn run<F: Files, O: Sink, E: Sink>(
     ensures read_fault { result ≡ Status.ReadFault
         → ForAsked (bytes_of words.now) (λ asked. MayFailToRead (F.told files.old) asked (F.faults files.old) (F.faults files.new)) }
 
-    // 2, 6 and 13: only where the words and the contents of their files ask for it, with what the line says. The line is told.
+    // 1, 2, 6, 8 to 10, 12 and 13: only where the words and the contents of their files ask for it, with what the line says. The line is told.
     ensures ended { Ended (bytes_of words.now) (F.told files.old) result (E.written err.old) (E.written err.new) (E.faults err.old) (E.faults err.new) }
 
     // And there always, unless a fault of reading or want of memory takes its place.
@@ -188,15 +90,15 @@ pub fn run<F: Files, O: Sink, E: Sink>(
         → ForAsked (bytes_of words.now) (λ asked. Writes (F.told files.old) asked (O.written out.old) (O.written out.new)) }
 
     // And there always, where they ask for one and no count of faults rises, unless for want of memory.
-    ensures succeeds { ForAsked (bytes_of words.now) (λ asked. (text : List ℕ) → IsSome (F.told files.old) → IsText (F.told files.old) asked text
+    ensures succeeds { ForAsked (bytes_of words.now) (λ asked. IsSome (F.told files.old) → IsAcceptedFor (F.told files.old) asked
         → IsFaultFree (F.faults files.old) (F.faults files.new)
         → IsFaultFree (O.faults out.old) (O.faults out.new)
         → (result ≡ Status.Done) ⊎ (result ≡ Status.OutOfMemory)) }
 
-    // On every status but 0 and 5 nothing is written to `out`.
-    ensures keeps { KeepsOut result (O.written out.old) (O.written out.new) }
+    // On every status but 0 and 5 `out` stays as it was.
+    ensures keeps { ¬ MayWrite result → out.new ≡ out.old }
 
-    // No file is begun for a command that reads none, and of each at most one byte more is taken than it may have.
+    // No file is begun for a command that reads none. Of the file begun last at most one byte more is taken than it may have.
     ensures untouched { ForAsked (bytes_of words.now) (λ asked. files_of asked ≡ [] → files.new ≡ files.old) }
     ensures few { ForAsked (bytes_of words.now) (λ asked. files_of asked ≢ [] → F.begun files.new ≡ true → TakesFew (F.told files.old) (files_of asked) (F.left files.new)) }
     ensures told { F.told files.new ≡ F.told files.old }

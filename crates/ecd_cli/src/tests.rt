@@ -120,7 +120,7 @@ fn is_answered(
 }
 
 #[test]
-fn words_are_in_the_table_or_the_usage_is_told(rt: HostRuntime) -> Result<(), Fail> {
+fn words_are_in_the_table_or_the_usage_names_cause(rt: HostRuntime) -> Result<(), Fail> {
     let not_built = Status::NotBuilt;
     let usage = "usage: check, compile, read, write, copy, run, sample\n";
     for words in [
@@ -279,7 +279,7 @@ fn the_text_of_the_compiler_is_written(rt: HostRuntime) -> Result<(), Fail> {
 }
 
 #[test]
-fn each_fault_is_told_and_a_front_is_written(rt: HostRuntime) -> Result<(), Fail> {
+fn each_fault_names_cause_and_a_front_is_written(rt: HostRuntime) -> Result<(), Fail> {
     let whole = call(rt.alloc(), "compile s x 0", with_file("x = 5"))?.out;
     let (read, write) = (Status::ReadFault, Status::WriteFault);
     // The outside, the answer, its line, the bytes that are written, and the faults of the files and of `out`.

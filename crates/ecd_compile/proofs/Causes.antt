@@ -80,13 +80,9 @@ same_tree text t u a b =
     let same : a.tokens ≡ b.tokens = one_list text a.tokens b.tokens a.lexemes b.lexemes in
     one_spelled t u b.tokens (subst (λ (ts : List Token). Spells t ts) same a.spells) b.spells
 
--- a schema that is thin has no cause to be refused
-pub refused_or_thin : (schema root : List ℕ) (tree : Tree) (number : ℕ) (r : Refusal) → IsSchema schema tree → IsThin tree root number → IsTold r → HasCause schema root r → ⊥
-refused_or_thin schema root tree number (NotUtf8 q) parsed thin x a = a.bad parsed.utf8
-refused_or_thin schema root tree number (Lex q s) parsed thin x a = no_list_and_fault schema parsed.tokens q s parsed.lexemes a.first
-refused_or_thin schema root tree number (Parse q s) parsed thin x a = no_schema_or_schema schema tree q s a parsed
-refused_or_thin schema root tree number NotBuilt parsed thin x a = a.other number (subst (λ (t : Tree). IsThin t root number) (same_tree schema tree a.tree parsed a.schema) thin)
-refused_or_thin schema root tree number OutOfMemory parsed thin x a = x
-
 pub never_refused : IsNeverRefused
-never_refused schema root text p r c x a = refused_or_thin schema root c.tree c.number r c.parsed c.thin x a
+never_refused schema root tree number (NotUtf8 q) parsed thin x a = a.bad parsed.utf8
+never_refused schema root tree number (Lex q s) parsed thin x a = no_list_and_fault schema parsed.tokens q s parsed.lexemes a.first
+never_refused schema root tree number (Parse q s) parsed thin x a = no_schema_or_schema schema tree q s a parsed
+never_refused schema root tree number NotBuilt parsed thin x a = a.other number (subst (λ (t : Tree). IsThin t root number) (same_tree schema tree a.tree parsed a.schema) thin)
+never_refused schema root tree number OutOfMemory parsed thin x a = x

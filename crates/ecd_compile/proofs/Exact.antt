@@ -13,7 +13,7 @@ use Rattle.ecd_parse.specs.declared.fault.ParseFault.TheVariants as parses
 use Rattle.ecd_compile.specs.Refusals.{of_grammar_is}
 use Rattle.ecd_compile.specs.Schema.{IsSchema, HasCause, IsTold, StandsWithin}
 use Rattle.ecd_compile.specs.Thin.{IsThin}
-use Rattle.ecd_compile.proofs.Causes.{one_cause, refused_or_thin}
+use Rattle.ecd_compile.proofs.Causes.{one_cause, never_refused}
 
 told_or_wants : (r : Refusal) → IsTold r ⊎ (r ≡ OutOfMemory)
 told_or_wants (NotUtf8 place) = inl tt
@@ -33,7 +33,7 @@ pub only_compiled : {A : Type 0} (result : Result A Refusal) (schema root : List
     → IsSchema schema tree → IsThin tree root number → IfErr result (λ r. r ≡ OutOfMemory)
 only_compiled (Ok a) schema root tree number err parsed thin = tt
 only_compiled (Err r) schema root tree number err parsed thin =
-    ⊎_elim (λ (t : IsTold r). absurd (refused_or_thin schema root tree number r parsed thin t err)) (λ (e : r ≡ OutOfMemory). e) (told_or_wants r)
+    ⊎_elim (λ (t : IsTold r). absurd (never_refused schema root tree number r parsed thin t err)) (λ (e : r ≡ OutOfMemory). e) (told_or_wants r)
 
 -- ---- places
 

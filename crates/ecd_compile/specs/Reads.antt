@@ -51,6 +51,6 @@ pub record IsCompiled (schema root text : List ℕ) (p : Program) : Type 0 where
   pub interface : HasInterface p.items
   pub reads : ReadsByte number p
 
--- a schema that is compiled has no cause to be refused
+-- a schema that can be compiled has no cause to be refused
 abbrev pub IsNeverRefused : Type 0
-IsNeverRefused = (schema root text : List ℕ) (p : Program) (r : Refusal) → IsCompiled schema root text p → IsTold r → HasCause schema root r → ⊥
+IsNeverRefused = (schema root : List ℕ) (tree : Tree) (number : ℕ) (r : Refusal) → IsSchema schema tree → IsThin tree root number → IsTold r → HasCause schema root r → ⊥

@@ -39,7 +39,10 @@ fn compile_thin(alloc: Global, schema: &[u8], root: &str) -> Result<Compiled, Re
     ensures refused { IfErr result (λ refusal. HasCause schema.now root.now refusal) }
     ensures within { IfErr result (λ refusal. StandsWithin (length schema.now) refusal) }
 {
-    let tree = schema_tree(alloc, schema, root)?;
+    let tree = match schema_tree(alloc, schema) {
+        Ok(tree) => tree,
+        Err(refusal) => return Err(refusal),
+    };
     let Some(number) = thin_number(&tree, root) else {
         return Err(Refusal::NotBuilt);
     };
@@ -78,7 +81,9 @@ mod tests {
     use std::test::Fail;
 
     #[test]
-    fn a_rule_with_a_small_number_is_compiled(rt: HostRuntime) -> Result<(), Fail> {
+    fn one_rule_with_a_small_number_is_compiled_and_the_rest_is_refused(
+        rt: HostRuntime,
+    ) -> Result<(), Fail> {
         let lex = |place, rule| Some(Refusal::Lex { place, rule });
         let parse = |place, rule| Some(Refusal::Parse { place, rule });
         for (schema, root, refusal) in [
@@ -112,6 +117,21 @@ mod tests {
         }
         let broken = compile(rt.alloc(), b"a = \"\xff", "a", 0);
         assert!(rt; matches!(broken, Err(Refusal::NotUtf8 { place: 5 })));
+        Ok(())
+    }
+
+    #[test]
+    fn refusals_are_told_in_words(rt: HostRuntime) -> Result<(), Fail> {
+        for (refusal, words) in [
+            (Refusal::NotUtf8 { place: 5 }, "rule T0 at byte 5"),
+            (Refusal::Lex { place: 4, rule: 3 }, "rule X3 at byte 4"),
+            (Refusal::Parse { place: 8, rule: 1 }, "rule P1 at byte 8"),
+            (Refusal::NotBuilt, "not built"),
+            (Refusal::OutOfMemory, "out of memory"),
+        ] {
+            let told = format!(in rt.alloc(); "{refusal}")?;
+            assert_eq!(rt; told.as_str(), words);
+        }
         Ok(())
     }
 }

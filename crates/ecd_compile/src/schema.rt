@@ -1,6 +1,6 @@
 //! From a schema's bytes to its tree.
 
-ghost use Rattle.std.specs.Prelude.{◌≡◌, ◌≤◌, IfOk, IfErr, length};
+ghost use Rattle.std.specs.Prelude.{ℕ, List, ◌≡◌, ◌≤◌, IfOk, IfErr, length};
 ghost use Rattle.ecd_compile.specs.Schema.{IsSchema, HasCause, StandsWithin};
 
 use crate::refusal::{Refusal, of_grammar, of_lexemes};
@@ -9,13 +9,12 @@ use ecd_parse::{Tree, parse};
 use std::alloc::Global;
 
 /// The tree of a text.
-fn tree_of(alloc: Global, text: &str, root: &str) -> Result<Tree, Refusal>
+fn tree_of(alloc: Global, text: &str) -> Result<Tree, Refusal>
     requires { length text.now ≤ MOST_BYTES }
     ensures tree { IfOk result (λ tree. IsSchema text.now tree) }
-    ensures refused { IfErr result (λ refusal. HasCause text.now root.now refusal) }
+    ensures refused { IfErr result (λ refusal. (root : List ℕ) → HasCause text.now root refusal) }
     ensures within { IfErr result (λ refusal. StandsWithin (length text.now) refusal) }
 {
-    let _ = root;
     let tokens = match lex(alloc, text) {
         Ok(tokens) => tokens,
         Err(fault) => return Err(of_lexemes(fault)),
@@ -27,15 +26,15 @@ fn tree_of(alloc: Global, text: &str, root: &str) -> Result<Tree, Refusal>
     Ok(tree)
 }
 
-/// The tree of a schema's bytes. The root is that of the clauses alone.
-pub fn schema_tree(alloc: Global, schema: &[u8], root: &str) -> Result<Tree, Refusal>
+/// The tree of a schema's bytes.
+pub fn schema_tree(alloc: Global, schema: &[u8]) -> Result<Tree, Refusal>
     requires { length schema.now ≤ MOST_BYTES }
     ensures tree { IfOk result (λ tree. IsSchema schema.now tree) }
-    ensures refused { IfErr result (λ refusal. HasCause schema.now root.now refusal) }
+    ensures refused { IfErr result (λ refusal. (root : List ℕ) → HasCause schema.now root refusal) }
     ensures within { IfErr result (λ refusal. StandsWithin (length schema.now) refusal) }
 {
     match str::from_utf8(schema) {
-        Ok(text) => tree_of(alloc, text, root),
+        Ok(text) => tree_of(alloc, text),
         Err(error) => Err(Refusal::NotUtf8 {
             place: error.valid_up_to() as u32,
         }),

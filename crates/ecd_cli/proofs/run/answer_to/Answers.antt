@@ -2,9 +2,8 @@ use Rattle.std.proofs.Common.{subst}
 use Rattle.ecd_cli.specs.Asked.{Asked, bytes_of}
 use Rattle.ecd_cli.specs.Commands.{asked_by}
 use Rattle.ecd_cli.specs.Causes.{IsDue, Writes, WritesFront}
-use Rattle.ecd_cli.specs.Told.{outcome_of}
+use Rattle.ecd_cli.specs.Answers.{outcome_of}
 use Rattle.ecd_cli.proofs.Tables.{asks_one}
-use Rattle.ecd_cli.proofs.Due.{decided_due}
 use Rattle.ecd_cli.proofs.run.answer_to.Goals as goal
 
 pub returns-in-Err-clause-due : goal.returns-in-Err-clause-due
@@ -12,7 +11,7 @@ returns-in-Err-clause-due g c = λ decided asked asks.
     let f = g.F.Files in
     let own = asked_by c.in-Some.command in
     subst (λ (a : Asked). IsDue (f.told c.args.files.now) a (outcome_of c.in-Err.answer)) (asks_one (bytes_of c.args.words.now) own asked c.in-Some.ensures.asks asks)
-    (decided_due (f.told c.args.files.now) own (f.faults c.args.files.now) (f.faults c.text_of.new.files) (outcome_of c.in-Err.answer) c.in-Err.ensures.none decided)
+    (c.in-Err.ensures.none.due decided)
 
 pub returns-in-Ok-put_all-clause-done : goal.returns-in-Ok-put_all-clause-done
 returns-in-Ok-put_all-clause-done g c = λ _ asked asks.

@@ -1,6 +1,6 @@
 use Rattle.std.proofs.Common.{◌≡◌, refl, sym, ◌∙◌, arith}
 use Rattle.ecd_cli.specs.Outcomes.{Outcome, status_of, Usage, Done, OutOfMemory}
-use Rattle.ecd_cli.specs.Told.{outcome_of}
+use Rattle.ecd_cli.specs.Answers.{outcome_of}
 use Rattle.ecd_cli.proofs.Due.{due_is_left, text_is_left, status_left, is_done, is_write_fault}
 use Rattle.ecd_cli.proofs.run.run.Goals as goal
 
@@ -15,14 +15,14 @@ returns-in-Ok-clause-refuses g c = λ asked asks due some is_due free.
     (λ done. ((e.done done asked asks).text, (e.done done asked asks).is_text)) (λ front. ((e.front front asked asks).text, (e.front front asked asks).is_text)) some is_due free)
 
 pub returns-in-Ok-clause-succeeds : goal.returns-in-Ok-clause-succeeds
-returns-in-Ok-clause-succeeds g c = λ asked asks text some is_text free free_out.
+returns-in-Ok-clause-succeeds g c = λ asked asks some is_accepted free free_out.
     let f = g.F.Files in
     let s = g.O.Sink in
     let o = outcome_of c.answer_to-answer.result in
     let e = c.answer_to-answer.ensures in
     status_left c.status.result o Done c.status.ensures
-    (text_is_left (f.told c.args.files.now) asked o text (f.faults c.args.files.now) (f.faults c.answer_to-answer.new.files) (s.faults c.args.out.now) (s.faults c.answer_to-answer.new.out)
-    (λ usage. e.usage.0 usage (asked, asks)) (λ fault. e.read_fault fault asked asks) (λ decided. e.due decided asked asks) e.write_fault some is_text free free_out)
+    (text_is_left (f.told c.args.files.now) asked o (f.faults c.args.files.now) (f.faults c.answer_to-answer.new.files) (s.faults c.args.out.now) (s.faults c.answer_to-answer.new.out)
+    (λ usage. e.usage.0 usage (asked, asks)) (λ fault. e.read_fault fault asked asks) (λ decided. e.due decided asked asks) e.write_fault some is_accepted free free_out)
 
 pub returns-in-Ok-clause-front : goal.returns-in-Ok-clause-front
 returns-in-Ok-clause-front g c = λ is. c.answer_to-answer.ensures.front (is_write_fault (outcome_of c.answer_to-answer.result) (sym c.status.ensures ∙ is))

@@ -1,0 +1,60 @@
+-- What is asked for over given contents is refused for one thing at most, and never where it is a text.
+use Rattle.std.proofs.Common.{◌≡◌, ℕ, ◌⊎◌, ⊎_elim, inl, inr, List, [], ◌∷◌, refl, ap, sym, ◌∙◌}
+use Rattle.std.specs.Prelude.{codes}
+use Rattle.ecd_compile.specs.declared.refusal.Refusal.{Refusal}
+use Rattle.ecd_compile.specs.Schema.{IsTold, HasCause}
+use Rattle.ecd_compile.proofs.Causes.{one_cause, never_refused}
+use Rattle.ecd_cli.specs.Asked.{Asked, SchemaAsked, check, compile, read, write, copy, run, sample}
+use Rattle.ecd_cli.specs.Outcomes.{Outcome, NotBuilt}
+use Rattle.ecd_cli.specs.Causes.{IsRefused, IsCompiledTo, IsAnyNumber, IsDenied, IsAccepted, IsTextOver, outcome_of_refusal}
+
+refused_once : (schema root : List ℕ) (o p : Outcome) → IsRefused schema root o → IsRefused schema root p → o ≡ p
+refused_once schema root o p a b =
+    let refusal : a.refusal ≡ b.refusal = one_cause schema root a.refusal b.refusal a.names_cause b.names_cause a.cause b.cause in
+    a.is ∙ ap (outcome_of_refusal schema) refusal ∙ sym b.is
+
+refused_or_number : (schema root : List ℕ) (o : Outcome) → IsRefused schema root o → IsAnyNumber schema root → ⊥
+refused_or_number schema root o a b = never_refused schema root b.1.tree b.0 a.refusal b.1.parsed b.1.thin a.names_cause a.cause
+
+compiled_number : (schema root text : List ℕ) → IsCompiledTo schema root text → IsAnyNumber schema root
+compiled_number schema root text t = (t.compiled.number, record { tree = t.compiled.tree; parsed = t.compiled.parsed; thin = t.compiled.thin })
+
+pub denied_once : (asked : Asked) (contents : List (List ℕ)) (o p : Outcome) → IsDenied asked contents o → IsDenied asked contents p → o ≡ p
+denied_once (check s) [] o p a b = absurd a
+denied_once (check s) (x ∷ []) o p a b = refused_once x s.root o p a b
+denied_once (check s) (x ∷ y ∷ more) o p a b = absurd a
+denied_once (compile s) [] o p a b = absurd a
+denied_once (compile s) (x ∷ []) o p a b = refused_once x s.root o p a b
+denied_once (compile s) (x ∷ y ∷ more) o p a b = absurd a
+denied_once (read s d) contents o p a b = a ∙ sym b
+denied_once (write s v m) contents o p a b = a ∙ sym b
+denied_once (copy s d m) contents o p a b = a ∙ sym b
+denied_once (run c f d n) contents o p a b = a ∙ sym b
+denied_once (sample n) contents o p a b = a ∙ sym b
+
+pub denied_or_accepted : (asked : Asked) (contents : List (List ℕ)) (o : Outcome) → IsDenied asked contents o → IsAccepted asked contents → ⊥
+denied_or_accepted (check s) [] o a b = a
+denied_or_accepted (check s) (x ∷ []) o a b = refused_or_number x s.root o a b
+denied_or_accepted (check s) (x ∷ y ∷ more) o a b = a
+denied_or_accepted (compile s) [] o a b = a
+denied_or_accepted (compile s) (x ∷ []) o a b = refused_or_number x s.root o a b
+denied_or_accepted (compile s) (x ∷ y ∷ more) o a b = a
+denied_or_accepted (read s d) contents o a b = b
+denied_or_accepted (write s v m) contents o a b = b
+denied_or_accepted (copy s d m) contents o a b = b
+denied_or_accepted (run c f d n) contents o a b = b
+denied_or_accepted (sample n) contents o a b = b
+
+-- what has a text is accepted
+pub text_accepted : (asked : Asked) (contents : List (List ℕ)) (text : List ℕ) → IsTextOver asked contents text → IsAccepted asked contents
+text_accepted (check s) [] text b = b
+text_accepted (check s) (x ∷ []) text b = b.0
+text_accepted (check s) (x ∷ y ∷ more) text b = b
+text_accepted (compile s) [] text b = b
+text_accepted (compile s) (x ∷ []) text b = compiled_number x s.root text b
+text_accepted (compile s) (x ∷ y ∷ more) text b = b
+text_accepted (read s d) contents text b = b
+text_accepted (write s v m) contents text b = b
+text_accepted (copy s d m) contents text b = b
+text_accepted (run c f d n) contents text b = b
+text_accepted (sample n) contents text b = b

@@ -1,0 +1,81 @@
+-- Why a command has no text.
+use Rattle.std.proofs.Common.{◌≡◌, ℕ, ◌<◌, ◌≤◌, ◌⊎◌, ⊎_elim, inl, inr, List, [], ◌∷◌, arith, refl, ap, sym, ◌∙◌, subst}
+use Rattle.std.specs.Prelude.{Option, Some, None, Result, Ok, Err, IfOk}
+use Rattle.ecd_outside.specs.Told.{Told, IsLonger, IsMissing, MayFail}
+use Rattle.ecd_outside.specs.Causes.{Rose}
+use Rattle.ecd_compile.specs.declared.refusal.Refusal.{Refusal}
+use Rattle.ecd_compile.specs.declared.refusal.Refusal.TheVariants as refusals
+use Rattle.ecd_compile.specs.Schema.{IsTold}
+use Rattle.ecd_cli.specs.Asked.{Asked, SchemaAsked, check, compile}
+use Rattle.ecd_cli.specs.Outcomes.{Outcome, Done, NoEncoding, Broken, Usage, ReadFault, WriteFault, TooLarge, OutOfMemory, NotBuilt}
+use Rattle.ecd_cli.specs.Files.{Wanted, files_of, schema_wanted, IsRead, AreRead, IsTooLarge, IsOneMissing}
+use Rattle.ecd_cli.specs.Causes.{IsRefused, IsRefusedOrWants, IsUnread, IsDenied, IsDue, IsDecided, MayFailToRead, HasNoText, outcome_of_refusal}
+
+-- a refusal that is due is no end of another kind
+decided_only : (told : Told) (asked : Asked) (before now : ℕ) (o : Outcome) → IsDecided o → IsDue told asked o → HasNoText told asked before now o
+decided_only told asked before now o decided due = record {
+  not_done = λ e. subst IsDecided e decided;
+  not_usage = λ e. subst IsDecided e decided;
+  not_write = λ e. subst IsDecided e decided;
+  fault = λ e. absurd (subst IsDecided e decided);
+  due = λ _. due;
+}
+
+pub wants_only : (told : Told) (asked : Asked) (before now : ℕ) (o : Outcome) → o ≡ OutOfMemory → HasNoText told asked before now o
+wants_only told asked before now o is = record {
+  not_done = λ e. let both : OutOfMemory ≡ Done = sym is ∙ e in cc;
+  not_usage = λ e. let both : OutOfMemory ≡ Usage = sym is ∙ e in cc;
+  not_write = λ e. let both : OutOfMemory ≡ WriteFault = sym is ∙ e in cc;
+  fault = λ e. let both : OutOfMemory ≡ ReadFault = sym is ∙ e in let none : ⊥ = cc in absurd none;
+  due = λ decided. absurd (subst IsDecided is decided);
+}
+
+fault_only : (told : Told) (asked : Asked) (before now : ℕ) (o : Outcome) → o ≡ ReadFault → MayFailToRead told asked before now → HasNoText told asked before now o
+fault_only told asked before now o is may = record {
+  not_done = λ e. let both : ReadFault ≡ Done = sym is ∙ e in cc;
+  not_usage = λ e. let both : ReadFault ≡ Usage = sym is ∙ e in cc;
+  not_write = λ e. let both : ReadFault ≡ WriteFault = sym is ∙ e in cc;
+  fault = λ _. may;
+  due = λ decided. absurd (subst IsDecided is decided);
+}
+
+-- a file is not read, before which all are
+pub unread_has_none : (told : Told) (asked : Asked) (file : Wanted) (before now : ℕ) (o : Outcome)
+    → (IsMissing told file.name → IsOneMissing told (files_of asked)) → ((name : List ℕ) → (name ≡ file.name) × IsLonger told file.name file.limit → IsTooLarge told (files_of asked) name)
+    → IsUnread told file before now o → HasNoText told asked before now o
+unread_has_none told asked file before now o missing large unread =
+    ⊎_elim
+    (λ (x : o ≡ OutOfMemory). wants_only told asked before now o x)
+    (λ (x : ((o ≡ ReadFault) × MayFail told file.name before now) ⊎ ((o ≡ TooLarge file.name) × IsLonger told file.name file.limit)). ⊎_elim
+    (λ (y : (o ≡ ReadFault) × MayFail told file.name before now). fault_only told asked before now o y.0
+      (⊎_elim (λ (z : Rose before now). inl z) (λ (z : IsMissing told file.name). inr (missing z)) y.1))
+    (λ (y : (o ≡ TooLarge file.name) × IsLonger told file.name file.limit).
+      decided_only told asked before now o (subst IsDecided (sym y.0) tt) (inl record { name = file.name; is = y.0; large = large file.name (refl, y.1) })) x)
+    unread
+
+refusal_decided : (schema : List ℕ) (r : Refusal) → IsTold r → IsDecided (outcome_of_refusal schema r)
+refusal_decided schema (refusals.NotUtf8 p) is = tt
+refusal_decided schema (refusals.Lex p r) is = tt
+refusal_decided schema (refusals.Parse p r) is = tt
+refusal_decided schema refusals.NotBuilt is = tt
+refusal_decided schema refusals.OutOfMemory is = absurd is
+
+pub refused_decided : (schema root : List ℕ) (o : Outcome) → IsRefused schema root o → IsDecided o
+refused_decided schema root o r = subst IsDecided (sym r.is) (refusal_decided schema r.refusal r.names_cause)
+
+-- the schema is refused, once the files are read
+pub refused_has_none : (told : Told) (asked : Asked) (schema root : List ℕ) (contents : List (List ℕ)) (before now : ℕ) (o : Outcome)
+    → AreRead told (files_of asked) contents → (IsRefused schema root o → IsDenied asked contents o) → IsRefusedOrWants schema root o → HasNoText told asked before now o
+refused_has_none told asked schema root contents before now o are denied refused =
+    ⊎_elim
+    (λ (x : o ≡ OutOfMemory). wants_only told asked before now o x)
+    (λ (x : IsRefused schema root o). decided_only told asked before now o (refused_decided schema root o x) (inr record { contents = contents; are_read = are; denied = denied x }))
+    refused
+
+pub unbuilt_has_none : (told : Told) (asked : Asked) (before now : ℕ) → AreRead told (files_of asked) [] → IsDenied asked [] NotBuilt → HasNoText told asked before now NotBuilt
+unbuilt_has_none told asked before now are denied = decided_only told asked before now NotBuilt tt (inr record { contents = []; are_read = are; denied = denied })
+
+-- a text of these bytes
+pub ok_text : {E : Type 0} (r : Result (List ℕ) E) (bytes : List ℕ) (P : List ℕ → Type 0) → IfOk r (λ t. t ≡ bytes) → P bytes → IfOk r P
+ok_text (Ok t) bytes P e p = subst P (sym e) p
+ok_text (Err e) bytes P is p = tt
