@@ -32,7 +32,7 @@ pub enum Status {
     Notation,
     /// The C file has no such function.
     NoFunction,
-    /// The schema asks for more than is built.
+    /// What is asked for is not built.
     NotBuilt,
 }
 
