@@ -2,6 +2,11 @@ pub mod Kept
 pub mod Heaviest
 pub mod Lookup
 pub mod Names
+pub mod Known
+pub mod Directs
+pub mod PutFirst
+pub mod Sees
+pub mod KindLayers
 pub mod Built
 pub mod Layers
 pub mod Calculus

@@ -4,6 +4,11 @@
 pub mod build;
 pub mod builder;
 mod chains;
+mod directory;
+pub mod fault;
+mod first;
+mod judge_expr;
+mod kind;
 pub mod laws;
 pub mod tree;
 pub mod value;

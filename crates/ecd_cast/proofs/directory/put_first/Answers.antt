@@ -1,0 +1,6 @@
+use Rattle.std.proofs.Common.{◌≡◌, sym, ◌∙◌, subst, ap, true, false}
+use Rattle.ecd_cast.proofs.PutFirst.{put_first, there_first, not_true}
+use Rattle.ecd_cast.proofs.directory.put_first.Goals as goal
+
+pub returns-in-Ok : goal.returns-in-Ok
+returns-in-Ok c = put_first c.args.numbers.now c.insert.new.self c.in_ok-key.key c.args.number c.args.name.now c.in_ok-key.ensures.items c.in-Ok.ensures.updates (sym c.contains_key.ensures ∙ c.if-not-contains_key.true)
