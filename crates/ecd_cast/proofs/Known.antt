@@ -50,6 +50,17 @@ names-append (m ∷ ns) n = ap (λ (l : List Name). l ++ m.now ∷ []) (names-ap
 pub names-more : (ns : List (Bor (List ℕ))) (i : ℕ) (n : Bor (List ℕ)) → i < length ns → n ≡ get_or ns i n → names_in (take (i + 1) ns) ≡ n.now ∷ names_in (take i ns)
 names-more ns i n h e = ap names_in (take_more ns i n h) ∙ (names-append (take i ns) (get_or ns i n) ∙ ap (λ (m : Bor (List ℕ)). m.now ∷ names_in (take i ns)) (sym e))
 
+or_swap : (a b : Bool) → (a || b) ≡ (b || a)
+or_swap true true = refl
+or_swap true false = refl
+or_swap false true = refl
+or_swap false false = refl
+
+pub among-more : (ns : List (Bor (List ℕ))) (i : ℕ) (d : Bor (List ℕ)) (x : Name) (found r : Bool) → i < length ns → found ≡ is_among (names_in (take i ns)) x → r ≡ bytes_eq (get_or ns i d).now x →
+    (found || r) ≡ is_among (names_in (take (i + 1) ns)) x
+among-more ns i d x found r h e k =
+    (λ j. e j || k j) ∙ (or_swap (is_among (names_in (take i ns)) x) (bytes_eq (get_or ns i d).now x) ∙ ap (λ l. is_among l x) (sym (ap names_in (take_more ns i d h) ∙ names-append (take i ns) (get_or ns i d))))
+
 -- ---- cells
 
 -- cells in front that have other names

@@ -7,6 +7,8 @@ pub mod Directs
 pub mod PutFirst
 pub mod Sees
 pub mod KindLayers
+pub mod Args
+pub mod StmtLayers
 pub mod Built
 pub mod Layers
 pub mod Calculus

@@ -1,9 +1,12 @@
 -- What a program's judge keeps of what stands round a statement, as the definitions have it.
-use Rattle.std.specs.Prelude.{ℕ, ◌+◌, ◌≡◌, ◌≤◌, ◌<◌, ◌^◌, Bool, true, false, if◌then◌else◌, List, [], ◌∷◌, ◌++◌, Option, Some, None, bytes_eq, length, take, drop}
+use Rattle.std.specs.Prelude.{ℕ, ◌+◌, not, ◌≡◌, ◌≤◌, ◌<◌, ◌^◌, Bool, true, false, if◌then◌else◌, List, [], ◌∷◌, ◌++◌, Option, Some, None, bytes_eq, length, take, drop}
 use denote.Ref.{Bor}
 use Rattle.ecd_cast.specs.declared.tree.CItem.{CItem}
 use Rattle.ecd_cast.specs.declared.tree.CItem.TheVariants.{Struct as AStructDecl, Function as AFunction}
 use Rattle.ecd_cast.specs.declared.tree.StructDecl.{StructDecl}
+use Rattle.ecd_cast.specs.declared.tree.Param.{Param}
+use Rattle.ecd_cast.specs.declared.tree.Stmt.{Stmt}
+use Rattle.ecd_cast.specs.declared.tree.Stmt.TheVariants.{Number as DeclNumber, Pointer as DeclPointer, Assign, Store, SetCell, If', For', Return}
 use Rattle.ecd_cast.specs.declared.directory.Directory.{Directory}
 use Rattle.ecd_cast.specs.declared.directory.Surroundings.{Surroundings}
 use Rattle.ecd_cast.specs.declared.directory.Found.{Found}
@@ -14,8 +17,8 @@ use Rattle.ecd_cast.specs.declared.tree.CellKind.{CellKind}
 use Rattle.ecd_cast.specs.declared.tree.CellKind.TheVariants.{Number as NumberCell, Pointer as PointerCell}
 use Rattle.ecd_cast.specs.declared.kind.Variable.{Variable}
 use Rattle.ecd_cast.specs.Memory.{Name}
-use Rattle.ecd_cast.specs.Kinds.{Kind, ANumber, ATruth, AReadPointer, AWritePointer, Unknown, AStruct, Known}
-use Rattle.ecd_cast.specs.Validity.{Around, structs_of, functions_of, function_named}
+use Rattle.ecd_cast.specs.Kinds.{Kind, ANumber, ATruth, AReadPointer, AWritePointer, Unknown, AStruct, Known, takes, param_kind, unless, kind_in, member, broken_as, asked, asked_cell}
+use Rattle.ecd_cast.specs.Validity.{Around, structs_of, functions_of, function_named, known_after, source_broken, assignable, assigned_kind, is_among}
 use Rattle.ecd_cast.specs.Chains.{under}
 
 -- ---- the numbers of functions and structs
@@ -104,3 +107,37 @@ around_as s loops = record {
 abbrev pub IsFound : Surroundings → Name → Option Found → Type 0
 IsFound s g None = (function_named (functions_of (take s.at_ s.items.now)) g ≡ None) × (function_named (functions_of (drop s.at_ s.items.now)) g ≡ None)
 IsFound s g (Some f) = IsFoundAs (functions_of (take s.at_ s.items.now)) (functions_of (drop s.at_ s.items.now)) g f.function.now f.is_earlier
+
+-- the rules that a call breaks, by the function that is called and whether the arguments match its parameters
+abbrev pub called_broken : Option Found → Bool → List ℕ
+called_broken None fit = 1 ∷ []
+called_broken (Some f) fit = unless fit 2 ++ unless f.is_earlier 3
+
+abbrev pub params_in : Option Found → List Param
+params_in None = []
+params_in (Some f) = f.function.now.params
+
+abbrev pub takes_at : Option Param → Kind → Bool
+takes_at (Some p) k = takes (param_kind p.kind) k
+takes_at None k = false
+
+-- the variables that are known behind statements
+abbrev pub known_behind : List Stmt → Known → Known
+known_behind [] known = known
+known_behind (s ∷ rest) known = known_behind rest (known_after s known)
+
+-- a name that a statement declares is known behind it, and the others stay
+pub record Declares (stmt : Stmt) (old new : List Variable) : Type 0 where
+  pub known : known_in new ≡ known_after stmt (known_in old)
+  pub kept : take (length old) new ≡ old
+
+-- the rules that a statement breaks by itself, without those inside it
+abbrev pub own_rules : Around → Known → Stmt → List ℕ
+own_rules around known (DeclNumber x e) = source_broken around known ANumber e
+own_rules around known (DeclPointer x e) = broken_as AReadPointer around.structs known e
+own_rules around known (Assign x e) = assignable (kind_in known x) ++ source_broken around known (assigned_kind (kind_in known x)) e ++ unless (not (is_among around.loops x)) 4
+own_rules around known (Store x i e) = asked AWritePointer (kind_in known x) ++ broken_as ANumber around.structs known i ++ broken_as ANumber around.structs known e
+own_rules around known (SetCell x c e) = asked_cell around.structs (kind_in known x) c ++ broken_as (member around.structs (kind_in known x) c) around.structs known e
+own_rules around known (If' t s ys u ns) = broken_as ATruth around.structs known t
+own_rules around known (For' x b s body) = asked ANumber (kind_in known b)
+own_rules around known (Return e) = broken_as ANumber around.structs known e

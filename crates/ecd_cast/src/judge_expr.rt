@@ -16,6 +16,8 @@ use ecd_list::OutOfMemory;
 pub(crate) struct Scene<'s, 'a> {
     pub(crate) around: &'s Surroundings<'a>,
     pub(crate) known: &'s [Variable<'a>],
+    /// The variables and bounds of the loops around.
+    pub(crate) loops: &'s [&'a [u8]],
     pub(crate) spot: Spot,
 }
 

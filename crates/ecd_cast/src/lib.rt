@@ -8,6 +8,8 @@ mod directory;
 pub mod fault;
 mod first;
 mod judge_expr;
+mod judge_source;
+mod judge_stmt;
 mod kind;
 pub mod laws;
 pub mod tree;
