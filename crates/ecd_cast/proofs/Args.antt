@@ -1,18 +1,17 @@
 -- Arguments and calls.
-use Rattle.std.proofs.Common.{◌≡◌, ℕ, zero, suc, ◌+◌, ◌<◌, ◌≤◌, List, [], ◌∷◌, ◌++◌, length, get_or, take, drop, refl, ap, sym, ◌∙◌, subst, arith, Bool, true, false, append-nil, add-one}
+use Rattle.std.proofs.Common.{◌≡◌, ℕ, zero, suc, ◌+◌, ◌<◌, ◌≤◌, List, [], ◌∷◌, ◌++◌, length, get_or, take, drop, refl, ap, sym, ◌∙◌, arith, Bool, true, false, append-nil, add-one}
 use Rattle.std.specs.Prelude.{Option, Some, None, flat_map, slice_get, ◌&&◌, nat_le}
 use Rattle.std.proofs.lemmas.List.{take_more}
 use Rattle.std.proofs.lemmas.Grind.{flat_map-append}
-use Rattle.std.proofs.lemmas.Bool.{leb-true, leb-false, le-leb}
+use Rattle.std.proofs.lemmas.Bool.{leb-true, leb-false}
 use denote.Ref.{Bor}
 use Rattle.ecd_cast.specs.declared.tree.Expr.{Expr}
 use Rattle.ecd_cast.specs.declared.tree.Param.{Param}
-use Rattle.ecd_cast.specs.declared.tree.Function.{Function}
 use Rattle.ecd_cast.specs.declared.tree.StructDecl.{StructDecl}
 use Rattle.ecd_cast.specs.declared.directory.Surroundings.{Surroundings}
 use Rattle.ecd_cast.specs.declared.directory.Found.{Found}
 use Rattle.ecd_cast.specs.Memory.{Name}
-use Rattle.ecd_cast.specs.Kinds.{Kind, Known, takes, kind_of, param_kind, args_fit, unless}
+use Rattle.ecd_cast.specs.Kinds.{Known, takes, kind_of, param_kind, args_fit, unless}
 use Rattle.ecd_cast.specs.Validity.{call_broken, function_named, functions_of}
 use Rattle.ecd_cast.specs.Surroundings.{IsFound, IsFoundAs, around_as, structs_before, called_broken, takes_at, params_in}
 use Rattle.ecd_cast.proofs.Heaviest.{take_whole}

@@ -1,7 +1,7 @@
 -- Functions and structs by their names, before an item and in a whole file.
 use Rattle.std.proofs.Common.{◌≡◌, ℕ, zero, suc, ◌+◌, ◌-◌, ◌<◌, ◌≤◌, List, [], ◌∷◌, ◌++◌, length, get_or, take, drop, refl, ap, sym, ◌∙◌, subst, arith, Bool, true, false}
 use Rattle.std.specs.Prelude.{Option, Some, None, if◌then◌else◌, bytes_eq, slice_get, nat_lt}
-use Rattle.std.proofs.Common.{◌⊎◌, ⊎_elim, inl, inr}
+use Rattle.std.proofs.Common.{⊎_elim}
 use Rattle.std.proofs.lemmas.List.{take_more}
 use Rattle.std.proofs.lemmas.Bool.{lt-ltb, le-ltb, cases_lt}
 use Rattle.ecd_cast.specs.declared.tree.StructDecl.{StructDecl}
@@ -238,16 +238,16 @@ module _ (items : List CItem) (at_ : ℕ) (there : at_ ≤ length items) (g : Na
       IsFoundAs (functions_of (take at_ items)) (functions_of (drop at_ items)) g f (nat_lt i at_)
   function_there i e f h = ⊎_elim
       (λ (lt : i < at_).
-          let k = function_at 0 (take at_ items) g i (earlier_function i e lt) in
-          let zero : i - 0 ≡ i = omega arith in
-          let same : Some k.function ≡ Some f = sym (ap function_in k.stands) ∙ (ap (λ j. function_in (slice_get (take at_ items) j)) zero ∙ (ap function_in (get_take at_ i items lt) ∙ h)) in
-          rw (lt-ltb i at_ lt) (k.named ∙ same))
+      let k = function_at 0 (take at_ items) g i (earlier_function i e lt) in
+      let zero : i - 0 ≡ i = omega arith in
+      let same : Some k.function ≡ Some f = sym (ap function_in k.stands) ∙ (ap (λ j. function_in (slice_get (take at_ items) j)) zero ∙ (ap function_in (get_take at_ i items lt) ∙ h)) in
+      rw (lt-ltb i at_ lt) (k.named ∙ same))
       (λ (le : at_ ≤ i).
-          let two = no_earlier_function i e le in
-          let k = function_at at_ (drop at_ items) g i two.1 in
-          let number : at_ + (i - at_) ≡ i = omega arith in
-          let same : Some k.function ≡ Some f = sym (ap function_in k.stands) ∙ (ap function_in (get_drop at_ (i - at_) items) ∙ (ap (λ j. function_in (slice_get items j)) number ∙ h)) in
-          rw (le-ltb i at_ le) ((no_function 0 (take at_ items) g two.0).0, k.named ∙ same))
+      let two = no_earlier_function i e le in
+      let k = function_at at_ (drop at_ items) g i two.1 in
+      let number : at_ + (i - at_) ≡ i = omega arith in
+      let same : Some k.function ≡ Some f = sym (ap function_in k.stands) ∙ (ap function_in (get_drop at_ (i - at_) items) ∙ (ap (λ j. function_in (slice_get items j)) number ∙ h)) in
+      rw (le-ltb i at_ le) ((no_function 0 (take at_ items) g two.0).0, k.named ∙ same))
       (cases_lt i at_)
 
   pub function_nowhere : first_function 0 items g ≡ None → (function_named (functions_of (take at_ items)) g ≡ None) × (function_named (functions_of (drop at_ items)) g ≡ None)

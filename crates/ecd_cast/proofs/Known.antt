@@ -1,16 +1,18 @@
 -- The variables and names that are known, and cells by their names.
-use Rattle.std.proofs.Common.{◌≡◌, ℕ, zero, suc, ◌+◌, ◌<◌, ◌≤◌, List, [], ◌∷◌, ◌++◌, length, get_or, take, drop, refl, ap, sym, ◌∙◌, subst, arith, Bool, true, false}
+use Rattle.std.proofs.Common.{◌≡◌, ℕ, zero, suc, ◌+◌, ◌<◌, ◌≤◌, List, [], ◌∷◌, ◌++◌, length, get_or, take, drop, refl, ap, sym, ◌∙◌, arith, Bool, true, false}
 use Rattle.std.specs.Prelude.{Option, Some, None, if◌then◌else◌, bytes_eq, ◌||◌}
 use Rattle.std.proofs.lemmas.List.{take_more}
 use denote.Ref.{Bor}
 use Rattle.ecd_cast.specs.declared.kind.Kind.{Kind as Seen}
 use Rattle.ecd_cast.specs.declared.kind.Variable.{Variable}
+use Rattle.std.proofs.Common.{◌-◌}
+use Rattle.ecd_cast.specs.declared.tree.Param.{Param}
 use Rattle.ecd_cast.specs.declared.tree.CellInfo.{CellInfo}
 use Rattle.ecd_cast.specs.declared.tree.CellKind.{CellKind}
 use Rattle.ecd_cast.specs.declared.tree.CellKind.TheVariants.{Number as NumberCell, Pointer as PointerCell}
 use Rattle.ecd_cast.specs.Memory.{Name}
-use Rattle.ecd_cast.specs.Kinds.{Kind, ANumber, AReadPointer, Known, kind_in, cell_among}
-use Rattle.ecd_cast.specs.Validity.{is_among}
+use Rattle.ecd_cast.specs.Kinds.{Kind, ANumber, AReadPointer, Known, kind_in, param_kind, cell_among}
+use Rattle.ecd_cast.specs.Validity.{is_among, params_known}
 use Rattle.ecd_cast.specs.Surroundings.{kind_as, kind_if, known_in, names_in, cell_kind}
 
 -- ---- one more variable
@@ -87,3 +89,18 @@ by_kind PointerCell = refl
 pub cell-found : (is : List CellInfo) (i : ℕ) (x : CellInfo) (c : Name) → i < length is → x ≡ get_or is i x → cell_among (take i is) c ≡ None → bytes_eq x.name c ≡ true → cell_among is c ≡ Some (cell_kind x.kind)
 cell-found is i x c h e k n =
     ap (λ (l : List CellInfo). cell_among l c) (at_place_of is i x h e) ∙ (cell-tail (take i is) (x ∷ drop (suc i) is) c k ∙ rw n (by_kind x.kind))
+
+-- ---- parameters, the last one first
+
+drop-suc : {X : Type 0} (xs : List X) (k : ℕ) (x : X) → k < length xs → x ≡ get_or xs k x → drop k xs ≡ x ∷ drop (suc k) xs
+drop-suc [] k x h e = absurd (omega arith)
+drop-suc (y ∷ xs) zero x h e = ap (λ z. z ∷ xs) (sym e)
+drop-suc (y ∷ xs) (suc k) x h e = drop-suc xs k x (omega arith) e
+
+pub params-more : (params : List Param) (n : ℕ) (x : Param) (old new : List Variable) (v : Variable) → 0 < n → n ≤ length params → x ≡ get_or params (n - 1) x → known_in old ≡ params_known (drop n params) →
+    new ≡ old ++ v ∷ [] → v.name.now ≡ x.name → kind_as v.kind ≡ param_kind x.kind → known_in new ≡ params_known (drop (n - 1) params)
+params-more params n x old new v pos le e known made name kind =
+    let back : suc (n - 1) ≡ n = omega arith in
+    let lt : n - 1 < length params = omega arith in
+    let split : drop (n - 1) params ≡ x ∷ drop n params = drop-suc params (n - 1) x lt e ∙ ap (λ k. x ∷ drop k params) back in
+    ap known_in made ∙ (known-append old v ∙ ((λ j. (name j, kind j) ∷ known j) ∙ sym (ap params_known split)))

@@ -9,6 +9,10 @@ pub mod Sees
 pub mod KindLayers
 pub mod Args
 pub mod StmtLayers
+pub mod NameLayers
+pub mod Files
+pub mod SmallRules
+pub mod Verdicts
 pub mod Built
 pub mod Layers
 pub mod Calculus

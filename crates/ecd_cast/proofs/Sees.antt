@@ -1,6 +1,6 @@
 -- Faults that are taken in, piece by piece.
-use Rattle.std.proofs.Common.{◌≡◌, ℕ, List, [], ◌∷◌, ◌++◌, refl, ap, sym, ◌∙◌, subst, append_assoc}
-use Rattle.std.specs.Prelude.{Option, Some, None, map, if◌then◌else◌}
+use Rattle.std.proofs.Common.{◌≡◌, ℕ, List, [], ◌∷◌, ◌++◌, refl, ap, sym, ◌∙◌, subst}
+use Rattle.std.specs.Prelude.{Option}
 use Rattle.ecd_cast.specs.declared.first.First.{First}
 use Rattle.ecd_cast.specs.Meaning.{Place}
 use Rattle.ecd_cast.specs.Validity.{Fault, at_place}

@@ -1,6 +1,5 @@
 -- Faults and counts of statements, at each form that has parts, and one statement a turn.
-use Rattle.std.proofs.Common.{◌≡◌, ℕ, zero, suc, ◌+◌, ◌<◌, ◌≤◌, List, [], ◌∷◌, ◌++◌, length, get_or, take, refl, ap, sym, ◌∙◌, subst, arith, append-nil, append_assoc}
-use Rattle.std.specs.Prelude.{Option, Some, None}
+use Rattle.std.proofs.Common.{◌≡◌, ℕ, ◌+◌, ◌<◌, List, [], ◌∷◌, ◌++◌, length, get_or, take, refl, ap, sym, ◌∙◌, arith, append-nil, append_assoc}
 use Rattle.std.proofs.lemmas.List.{take_more}
 use Rattle.std.proofs.Math.Seq.{take-append_seam}
 use denote.Ref.{Bor}
@@ -15,12 +14,12 @@ use Rattle.ecd_cast.specs.Memory.{Name}
 use Rattle.ecd_cast.specs.Meaning.{Place, shifted, count_of, count_in}
 use Rattle.ecd_cast.specs.Laws.{count_all}
 use Rattle.ecd_cast.specs.Kinds.{ANumber, ATruth, Known, kind_in, broken_as, asked}
-use Rattle.ecd_cast.specs.Validity.{Fault, Around, in_loop, at_place, known_after, stmt_faults, row_faults, block_faults}
-use Rattle.ecd_cast.specs.First.{Sees, Finds}
+use Rattle.ecd_cast.specs.Validity.{Around, in_loop, at_place, known_after, stmt_faults, row_faults, block_faults}
+use Rattle.ecd_cast.specs.First.{Sees}
 use Rattle.ecd_cast.specs.Surroundings.{known_in, names_in, around_as, known_behind, own_rules, Declares}
 use Rattle.ecd_cast.proofs.Layers.{count-hidden}
 use Rattle.ecd_cast.proofs.Sees.{sees_then, sees_same}
-use Rattle.ecd_cast.proofs.Known.{known-append, names-append}
+use Rattle.ecd_cast.proofs.Known.{names-append}
 
 -- ---- forms with parts
 

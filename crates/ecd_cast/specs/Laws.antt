@@ -28,8 +28,9 @@ MeaningIsKept = (items more : List CItem) (g : Name) (vs : List Value) (m : Memo
 abbrev pub ValidityIsKept : Type 0
 ValidityIsKept = (before : List CItem) (i : CItem) (from more : List CItem) (at : ℕ) → item_faults before i from at ≡ [] → item_faults before i more at ≡ []
 
--- a valid program has no first fault, and every program at most one
+-- a valid program has no first fault, every other one has one, and no program two
 pub record FirstFault : Type 0 where
+  pub some : (p : Program) → (IsValid p → ⊥) → (f : Fault) × IsFirstFault p f
   pub none : (p : Program) (f : Fault) → IsValid p → IsFirstFault p f → ⊥
   pub one : (p : Program) (f g : Fault) → IsFirstFault p f → IsFirstFault p g → f ≡ g
 

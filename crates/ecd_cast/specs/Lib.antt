@@ -10,6 +10,8 @@ pub mod Lookup
 pub mod Built
 pub mod First
 pub mod Surroundings
+pub mod Names
+pub mod Causes
 pub mod Ends
 pub mod Kept
 pub mod Rules

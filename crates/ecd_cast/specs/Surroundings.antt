@@ -1,5 +1,5 @@
 -- What a program's judge keeps of what stands round a statement, as the definitions have it.
-use Rattle.std.specs.Prelude.{ℕ, ◌+◌, not, ◌≡◌, ◌≤◌, ◌<◌, ◌^◌, Bool, true, false, if◌then◌else◌, List, [], ◌∷◌, ◌++◌, Option, Some, None, bytes_eq, length, take, drop}
+use Rattle.std.specs.Prelude.{ℕ, ◌+◌, not, flat_map, ◌≡◌, ◌<◌, ◌^◌, Bool, true, false, if◌then◌else◌, List, [], ◌∷◌, ◌++◌, Option, Some, None, bytes_eq, length, take, drop}
 use denote.Ref.{Bor}
 use Rattle.ecd_cast.specs.declared.tree.CItem.{CItem}
 use Rattle.ecd_cast.specs.declared.tree.CItem.TheVariants.{Struct as AStructDecl, Function as AFunction}
@@ -18,7 +18,7 @@ use Rattle.ecd_cast.specs.declared.tree.CellKind.TheVariants.{Number as NumberCe
 use Rattle.ecd_cast.specs.declared.kind.Variable.{Variable}
 use Rattle.ecd_cast.specs.Memory.{Name}
 use Rattle.ecd_cast.specs.Kinds.{Kind, ANumber, ATruth, AReadPointer, AWritePointer, Unknown, AStruct, Known, takes, param_kind, unless, kind_in, member, broken_as, asked, asked_cell}
-use Rattle.ecd_cast.specs.Validity.{Around, structs_of, functions_of, function_named, known_after, source_broken, assignable, assigned_kind, is_among}
+use Rattle.ecd_cast.specs.Validity.{Around, structs_of, functions_of, function_named, known_after, source_broken, assignable, assigned_kind, is_among, param_broken, struct_names, function_names, block_returns}
 use Rattle.ecd_cast.specs.Chains.{under}
 
 -- ---- the numbers of functions and structs
@@ -141,3 +141,8 @@ own_rules around known (SetCell x c e) = asked_cell around.structs (kind_in know
 own_rules around known (If' t s ys u ns) = broken_as ATruth around.structs known t
 own_rules around known (For' x b s body) = asked ANumber (kind_in known b)
 own_rules around known (Return e) = broken_as ANumber around.structs known e
+
+-- the rules that the head of a function breaks, but for its names
+abbrev pub head_rules : List CItem → Function → List ℕ
+head_rules before f =
+    flat_map (λ q. param_broken (struct_names before) q.kind) f.params ++ unless (block_returns f.body) 5 ++ unless (not (is_among (function_names before) f.name)) 6

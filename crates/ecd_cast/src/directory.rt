@@ -55,10 +55,20 @@ impl Directory {
         for item in items {
             match item {
                 CItem::Struct(declaration) => {
-                    put_first(alloc, &mut directory.structs, declaration.name.as_slice(), at)?;
+                    put_first(
+                        alloc,
+                        &mut directory.structs,
+                        declaration.name.as_slice(),
+                        at,
+                    )?;
                 }
                 CItem::Function(function) => {
-                    put_first(alloc, &mut directory.functions, function.name.as_slice(), at)?;
+                    put_first(
+                        alloc,
+                        &mut directory.functions,
+                        function.name.as_slice(),
+                        at,
+                    )?;
                 }
             }
             at += 1;

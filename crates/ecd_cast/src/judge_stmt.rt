@@ -47,7 +47,7 @@ fn judge_assignable(first: &mut First, spot: Spot, kind: Option<Kind>)
 }
 
 /// Whether a name is among these.
-fn is_among(names: &[&[u8]], name: &[u8]) -> bool
+pub(crate) fn is_among(names: &[&[u8]], name: &[u8]) -> bool
     ensures { result ≡ is_among (names_in names.now) name.now }
 {
     let mut found = false;

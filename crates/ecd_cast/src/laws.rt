@@ -8,7 +8,7 @@ pub fn items_behind()
     ensures validity { ValidityIsKept }
 {}
 
-/// A program that breaks no rule has no first fault, and every program has at most one.
+/// A program that breaks no rule has no first fault, every other one has one, and no program has two.
 pub fn first_fault()
     ensures { FirstFault }
 {}

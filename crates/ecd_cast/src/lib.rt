@@ -7,12 +7,16 @@ mod chains;
 mod directory;
 pub mod fault;
 mod first;
+mod judge_end;
 mod judge_expr;
+mod judge_item;
+mod judge_names;
 mod judge_source;
 mod judge_stmt;
 mod kind;
 pub mod laws;
 pub mod tree;
+pub mod validate;
 pub mod value;
 
 #[cfg(test)]

@@ -1,5 +1,5 @@
-use Rattle.std.proofs.Common.{◌≡◌, sym, ◌∙◌, subst, ap, true, false}
-use Rattle.ecd_cast.proofs.PutFirst.{put_first, there_first, not_true}
+use Rattle.std.proofs.Common.{sym, ◌∙◌}
+use Rattle.ecd_cast.proofs.PutFirst.{put_first}
 use Rattle.ecd_cast.proofs.directory.put_first.Goals as goal
 
 pub returns-in-Ok : goal.returns-in-Ok

@@ -1,5 +1,3 @@
-use Rattle.std.proofs.Common.{◌≡◌, ◌∙◌, ap, sym, subst, Bool}
-use Rattle.ecd_cast.specs.Kinds.{result_kind, unless}
 use Rattle.ecd_cast.proofs.KindLayers.{broken-Load, broken-Binary, broken-Not, kind-Binary}
 use Rattle.ecd_cast.proofs.Sees.{finds_then}
 use Rattle.ecd_cast.proofs.judge_expr.+judge_expr.Goals as goal

@@ -1,4 +1,4 @@
-use Rattle.std.proofs.Common.{◌≡◌, ap, sym, ◌∙◌}
+use Rattle.std.proofs.Common.{ap, sym, ◌∙◌}
 use Rattle.std.specs.Prelude.{◌&&◌, slice_get}
 use Rattle.ecd_cast.specs.Kinds.{broken_by}
 use Rattle.ecd_cast.specs.Surroundings.{structs_before, known_in, takes_at}

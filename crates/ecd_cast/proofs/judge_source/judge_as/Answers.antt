@@ -1,4 +1,3 @@
-use Rattle.std.proofs.Common.{◌≡◌}
 use Rattle.ecd_cast.proofs.Sees.{finds_then}
 use Rattle.ecd_cast.proofs.judge_source.judge_as.Goals as goal
 

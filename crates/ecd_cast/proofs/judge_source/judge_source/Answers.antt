@@ -1,8 +1,6 @@
-use Rattle.std.proofs.Common.{◌≡◌, ◌++◌, List, ℕ, ap, sym, ◌∙◌, refl, subst}
-use Rattle.ecd_cast.specs.declared.tree.Param.{Param}
-use Rattle.ecd_cast.specs.declared.tree.Expr.{Expr}
+use Rattle.std.proofs.Common.{◌∙◌, subst}
 use Rattle.ecd_cast.specs.Memory.{Name}
-use Rattle.ecd_cast.specs.Kinds.{args_fit, unless}
+use Rattle.ecd_cast.specs.Kinds.{args_fit}
 use Rattle.ecd_cast.specs.Surroundings.{structs_before, known_in, IsFound}
 use Rattle.ecd_cast.proofs.Args.{call-found}
 use Rattle.ecd_cast.proofs.Sees.{finds_then, finds_same}

@@ -1,10 +1,9 @@
-use Rattle.std.proofs.Common.{◌≡◌, ◌∙◌, sym, ap, arith, ◌+◌, List, ◌∷◌, ◌++◌, [], take, refl, subst}
-use Rattle.ecd_cast.specs.Meaning.{shifted, Place}
-use Rattle.ecd_cast.specs.First.{place_as, Sees}
-use Rattle.ecd_cast.specs.Kinds.{ANumber, AReadPointer}
+use Rattle.std.proofs.Common.{◌≡◌, ◌∙◌, sym, ap, arith, ◌+◌, ◌∷◌}
+use Rattle.ecd_cast.specs.First.{place_as}
+use Rattle.ecd_cast.specs.Kinds.{ANumber}
 use Rattle.ecd_cast.specs.Laws.{count_all}
 use Rattle.ecd_cast.specs.Validity.{known_after, at_place, block_faults, in_loop}
-use Rattle.ecd_cast.specs.Surroundings.{known_in, around_as, known_behind, own_rules}
+use Rattle.ecd_cast.specs.Surroundings.{known_in, around_as, own_rules}
 use Rattle.ecd_cast.proofs.Known.{known-append}
 use Rattle.ecd_cast.proofs.Sees.{sees_then, sees_same}
 use Rattle.ecd_cast.proofs.StmtLayers.{faults-If, faults-For, count-If, count-For, count-more, behind-more, sees_more, kept_then, declared, looped}

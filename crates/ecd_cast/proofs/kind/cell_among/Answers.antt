@@ -1,4 +1,4 @@
-use Rattle.std.proofs.Common.{◌≡◌, sym, ◌∙◌, ap, true, false}
+use Rattle.std.proofs.Common.{sym, ◌∙◌, ap}
 use Rattle.std.specs.Prelude.{bytes_eq, Some}
 use Rattle.ecd_cast.proofs.Known.{cell-more, cell-found}
 use Rattle.ecd_cast.proofs.kind.cell_among.Goals as goal

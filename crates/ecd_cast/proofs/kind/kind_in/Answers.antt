@@ -1,4 +1,4 @@
-use Rattle.std.proofs.Common.{◌≡◌, sym, ◌∙◌}
+use Rattle.std.proofs.Common.{sym, ◌∙◌}
 use Rattle.ecd_cast.proofs.Known.{found-more, passed-more}
 use Rattle.ecd_cast.proofs.kind.kind_in.Goals as goal
 use Rattle.ecd_cast.proofs.kind.kind_in.Goals.{then-eq, else-eq}

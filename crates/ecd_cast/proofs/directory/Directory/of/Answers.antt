@@ -1,10 +1,6 @@
-use Rattle.std.proofs.Common.{◌≡◌, sym, ◌∙◌, subst, ap, arith, List, ℕ, refl, take, ◌+◌}
-use Rattle.std.specs.Prelude.{Some, None, if◌then◌else◌, bytes_eq}
-use Rattle.ecd_cast.specs.Memory.{Name}
-use Rattle.ecd_cast.specs.Chains.{under}
+use Rattle.std.proofs.Common.{sym, subst, arith, refl, take, ◌+◌}
 use Rattle.ecd_cast.specs.declared.directory.Directory.{Directory}
-use Rattle.ecd_cast.specs.declared.tree.CItem.{CItem}
-use Rattle.ecd_cast.specs.Surroundings.{Directs, or_first}
+use Rattle.ecd_cast.specs.Surroundings.{Directs}
 use Rattle.ecd_cast.proofs.Directs.{directs_struct, directs_function, at_struct, at_function, put_at}
 use Rattle.ecd_cast.proofs.directory.Directory.of.Goals as goal
 use Rattle.ecd_cast.proofs.directory.Directory.of.Goals.{in-Struct+in_ok-put_first-in-Struct, in-Function+in_ok-put_first-in-Function}

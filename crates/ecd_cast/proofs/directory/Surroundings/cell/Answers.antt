@@ -1,9 +1,9 @@
-use Rattle.std.proofs.Common.{◌≡◌, sym, ◌∙◌, subst, ap, arith, ◌≤◌, ◌<◌, length}
+use Rattle.std.proofs.Common.{◌≡◌, sym, ◌∙◌, ap, arith, ◌≤◌, length}
 use Rattle.std.specs.Prelude.{Some, None}
 use Rattle.std.specs.Option.{option_copied}
 use Rattle.ecd_cast.specs.Chains.{under}
 use Rattle.ecd_cast.specs.Kinds.{cell_among}
-use Rattle.ecd_cast.specs.Surroundings.{first_struct, kind_if}
+use Rattle.ecd_cast.specs.Surroundings.{kind_if}
 use Rattle.ecd_cast.proofs.Directs.{cell_there, no_cell, no_cell_yet, struct_stands}
 use Rattle.ecd_cast.proofs.directory.Surroundings.cell.Goals as goal
 

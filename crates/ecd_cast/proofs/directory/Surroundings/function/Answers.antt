@@ -1,9 +1,9 @@
-use Rattle.std.proofs.Common.{◌≡◌, sym, ◌∙◌, subst, ap, arith, ◌≤◌, ◌<◌, length}
+use Rattle.std.proofs.Common.{◌≡◌, sym, ◌∙◌, subst, ap, arith, ◌≤◌, length}
 use Rattle.std.specs.Prelude.{Some, None, Option}
 use Rattle.std.specs.Option.{option_copied}
 use Rattle.ecd_cast.specs.declared.directory.Found.{Found}
 use Rattle.ecd_cast.specs.Chains.{under}
-use Rattle.ecd_cast.specs.Surroundings.{first_function, IsFound}
+use Rattle.ecd_cast.specs.Surroundings.{IsFound}
 use Rattle.ecd_cast.proofs.Directs.{function_there, function_nowhere, function_stands}
 use Rattle.ecd_cast.proofs.directory.Surroundings.function.Goals as goal
 

@@ -1,8 +1,7 @@
-use Rattle.std.proofs.Common.{◌≡◌, sym, ◌∙◌, subst, ap, arith, ◌≤◌, ◌<◌, length}
+use Rattle.std.proofs.Common.{◌≡◌, sym, ◌∙◌, ap, arith, ◌≤◌, length}
 use Rattle.std.specs.Prelude.{Some, None}
 use Rattle.std.specs.Option.{option_copied}
 use Rattle.ecd_cast.specs.Chains.{under}
-use Rattle.ecd_cast.specs.Surroundings.{first_function}
 use Rattle.ecd_cast.proofs.Directs.{knows_function_so, knows_no_function}
 use Rattle.ecd_cast.proofs.directory.Surroundings.knows_function.Goals as goal
 
