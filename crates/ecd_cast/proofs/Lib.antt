@@ -17,5 +17,6 @@ pub mod Built
 pub mod Layers
 pub mod Calculus
 pub mod Rules
+pub mod Loops
 pub mod Frame
 pub mod Shapes
