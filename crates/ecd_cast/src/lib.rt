@@ -20,6 +20,9 @@ pub mod validate;
 pub mod value;
 
 #[cfg(test)]
+mod rules_tests;
+
+#[cfg(test)]
 mod tests {
     use crate::build::{binary, declare_call, give, load, name, one, set_cell, var, when};
     use crate::tree::{Expr, Op, Source, Stmt};
@@ -48,29 +51,5 @@ mod tests {
             matches!(&cell, Stmt::SetCell { cell, .. } if cell.as_slice() == b"v_p".as_slice())
         );
         Ok(())
-    }
-
-    /// `uint64_t name(const uint8_t *buf, uint64_t len, struct cells *out)`, or without its last parameter, with this body.
-    fn function(alloc: Global, text: &[u8], reads: bool, body: StmtList) -> Result<CItem, Fail> {
-        let mut params = ParamList::new(alloc);
-        params.push(Param {
-            name: name(alloc, b"buf")?,
-            kind: ParamKind::ReadPointer,
-        })?;
-        params.push(Param {
-            name: name(alloc, b"len")?,
-            kind: ParamKind::Number,
-        })?;
-        if reads {
-            params.push(Param {
-                name: name(alloc, b"out")?,
-                kind: ParamKind::Struct(name(alloc, b"cells")?),
-            })?;
-        }
-        Ok(CItem::Function(Function {
-            name: name(alloc, text)?,
-            params,
-            body,
-        }))
     }
 }
