@@ -15,7 +15,9 @@ use Rattle.ecd_cast.specs.Memory.{Name}
 use Rattle.ecd_cast.specs.Validity.{IsValidAfter, faults_from, item_faults, block_chain, call_depth_of, variables_of, heaviest_from}
 use Rattle.ecd_cast.specs.Chains.{chains_behind, under, calls_in, variables_in}
 use Rattle.ecd_cast.specs.Spelling.{IsSpelledItem, AreSpelledItems}
-use Rattle.ecd_cast.specs.Built.{IsBuilt}
+use Rattle.std.proofs.Common.{get_or, take}
+use Rattle.std.proofs.lemmas.List.{take_more}
+use Rattle.ecd_cast.specs.Built.{IsBuilt, Tallied}
 use Rattle.ecd_cast.proofs.Kept.{items_grow}
 use Rattle.ecd_cast.proofs.Heaviest.{depth_is_heaviest, heaviest_with_struct, heaviest_with_function, chains_with_struct, chains_with_function}
 use Rattle.ecd_cast.proofs.Names.{under-put}
@@ -105,3 +107,31 @@ built_function items new f depth spaces d s old reaches k r b v p count e named 
 pub on_ok : {X Y : Type 0} (r : Result X Y) (P : Type 0) → is_err r ≡ false → OnOk r P → P
 on_ok (Ok x) P e h = h
 on_ok (Err x) P e h = absurd cc
+
+-- ---- the chains of all items
+
+pub tallied_struct : {A : Type 0} (items : List CItem) (s : StructDecl) (reaches : BTreeMap (Vec ℕ A) Reach) (most : Reach) → Tallied items reaches most → Tallied (items ++ AStructDecl s ∷ []) reaches most
+tallied_struct items s reaches most b = record {
+  reached = record {
+    calls_are = λ g. b.reached.calls_are g ∙ chains_same (λ f. 1) items s g;
+    variables_are = λ g. b.reached.variables_are g ∙ chains_same variables_of items s g;
+  };
+  calls_are = b.calls_are ∙ depth_same items s;
+  variables_are = b.variables_are ∙ heaviest_same variables_of items s;
+}
+
+pub tallied_function : {A : Type 0} (items : List CItem) (f : Function) (old reaches : BTreeMap (Vec ℕ A) Reach) (k : Vec ℕ A) (r most next : Reach) → Tallied items old most → k.items ≡ f.name →
+    Updates (λ x y. slice_cmp nat_cmp x.items y.items) old reaches k (Some r) →
+    r.calls ≡ 1 + block_chain (λ g. calls_in (under old g)) f.body → r.variables ≡ variables_of f + block_chain (λ g. variables_in (under old g)) f.body →
+    next.calls ≡ max most.calls r.calls → next.variables ≡ max most.variables r.variables → Tallied (items ++ AFunction f ∷ []) reaches next
+tallied_function items f old reaches k r most next b named h calls variables deep wide = record {
+  reached = record {
+    calls_are = grown_chains calls_in (λ g. 1) items f old reaches k r b.reached.calls_are named h calls;
+    variables_are = grown_chains variables_in variables_of items f old reaches k r b.reached.variables_are named h variables;
+  };
+  calls_are = deep ∙ (grown_heaviest calls_in (λ g. 1) items f old reaches k r most.calls b.reached.calls_are calls (b.calls_are ∙ depth_is_heaviest (λ g. 0) 0 items) ∙ sym (depth_is_heaviest (λ g. 0) 0 (items ++ AFunction f ∷ [])));
+  variables_are = wide ∙ grown_heaviest variables_in variables_of items f old reaches k r most.variables b.reached.variables_are variables b.variables_are;
+}
+
+pub one_item : (items : List CItem) (i : ℕ) (x y : CItem) → i < length items → x ≡ get_or items i x → x ≡ y → take i items ++ y ∷ [] ≡ take (i + 1) items
+one_item items i x y h e k = ap (λ z. take i items ++ z ∷ []) (sym k ∙ e) ∙ sym (take_more items i x h)

@@ -29,3 +29,9 @@ pub record IsFile (p : Program) (spaces : ℕ) : Type 0 where
   pub counted : length p.items < 2 ^ 32
   pub depth_is : p.depth ≡ call_depth_of p.items
   pub spaces_are : spaces ≡ spaces_of p.items
+
+-- what is known of the chains of some items
+pub record Tallied {A : Type 0} (items : List CItem) (reaches : BTreeMap (Vec ℕ A) Reach) (most : Reach) : Type 0 where
+  pub reached : Reaches items reaches
+  pub calls_are : most.calls ≡ call_depth_of items
+  pub variables_are : most.variables ≡ spaces_of items

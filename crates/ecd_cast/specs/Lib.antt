@@ -8,6 +8,10 @@ pub mod Spelling
 pub mod Chains
 pub mod Lookup
 pub mod Built
+pub mod First
+pub mod Surroundings
+pub mod Names
+pub mod Causes
 pub mod Ends
 pub mod Kept
 pub mod Rules

@@ -4,6 +4,7 @@ ghost use Rattle.std.specs.Prelude.{◌≡◌, [], ◌∷◌, ◌++◌, OnOk, On
 ghost use Rattle.ecd_cast.specs.Validity.{IsValid, IsValidAfter, call_depth_of, spaces_of};
 ghost use Rattle.ecd_cast.specs.Spelling.{IsSpelledProgram, IsSpelledItem};
 ghost use Rattle.ecd_cast.specs.Kept.{IsNew};
+ghost use Rattle.ecd_cast.specs.Built.{IsFile};
 ghost use Rattle.ecd_cast.specs.Lookup.{IsFunctionAt, IsReaderAt, AreReaderParams, is_named};
 ghost use Rattle.ecd_cast.specs.declared.tree.CItem.TheVariants.{Function as AFunction};
 
@@ -36,6 +37,14 @@ impl Model for Valid {
 }
 
 impl Valid {
+    /// A program that is judged already.
+    pub(crate) fn of_judged(program: Program, spaces: u32) -> Valid
+        requires { IsFile program spaces }
+        ensures { result ≡ program }
+    {
+        Valid { program, spaces }
+    }
+
     /// The program.
     pub fn program(&self) -> &Program
         ensures same { result.now ≡ self.now }

@@ -1,11 +1,12 @@
 //! Chains of calls: how long they are, and how many variables their functions have together.
 
 ghost use Rattle.std.specs.Prelude.{◌≡◌, ◌+◌, ◌≤◌, ◌<◌, ◌^◌, ◌∷◌, [], List, ℕ, max, length, IfOk};
-ghost use Rattle.ecd_cast.specs.Validity.{source_chain, chain_of, block_chain, declared_by, block_declares, variables_of};
+ghost use Rattle.ecd_cast.specs.Validity.{source_chain, chain_of, block_chain, declared_by, block_declares, variables_of, call_depth_of, spaces_of};
 ghost use Rattle.ecd_cast.specs.Chains.{under, calls_in, variables_in};
 
-use crate::tree::{Function, Source, Stmt};
+use crate::tree::{CItem, Function, Source, Stmt};
 use ecd_list::OutOfMemory;
+use std::alloc::Global;
 use std::collections::BTreeMap;
 
 /// The most statements inside each other that are walked; behind them the stack counts as used up.
@@ -148,4 +149,28 @@ pub(crate) fn function_reach(reaches: &Reaches, function: &Function) -> Result<R
     let variables = params.checked_add(declared).ok_or(OutOfMemory)?;
     let reach = block_reach(reaches, function.body.as_slice(), MOST_LEVELS)?;
     reach.through(variables)
+}
+
+/// The longest chain of calls of some items, and the most variables of one chain.
+pub(crate) fn longest(alloc: Global, items: &[CItem]) -> Result<Reach, OutOfMemory>
+    ensures calls { IfOk result (λ r. r.calls ≡ call_depth_of items.now) }
+    ensures variables { IfOk result (λ r. r.variables ≡ spaces_of items.now) }
+{
+    let mut reaches = BTreeMap::new(alloc);
+    let mut most = Reach::NONE;
+    for item in items {
+        match item {
+            CItem::Struct(_) => {}
+            CItem::Function(function) => {
+                let reach = function_reach(&reaches, function)?;
+                let name = Vec::from_slice(alloc, function.name.as_slice())?;
+                most = most.max(reach);
+                match reaches.insert(name, reach) {
+                    Ok(_) => {}
+                    Err(_) => return Err(OutOfMemory),
+                }
+            }
+        }
+    }
+    Ok(most)
 }

@@ -1,0 +1,325 @@
+//! Each rule by a small program, and what a valid program is known to have.
+
+ghost use Rattle.std.specs.Prelude.{IfOk, ◌<◌, ◌^◌};
+ghost use Rattle.ecd_cast.specs.Spelling.{IsName, IsSpelledExpr, IsSpelledSource, IsSpelledStmt, IsSpelledBlock, IsSpelledItem, IsSpelledProgram};
+
+use crate::build::{name, one, var};
+use crate::fault::CFault;
+use crate::tree::{CItem, CItemList, CellInfo, CellKind, Expr, ExprList, Function, Param, ParamKind, ParamList, Program, Source, Stmt, StmtList, StructDecl};
+use crate::validate::validate;
+use ecd_list::{Boxed, OutOfMemory};
+use std::alloc::Global;
+use std::test::Fail;
+
+/// The variable of this name.
+fn variable(alloc: Global, text: &[u8]) -> Result<Expr, OutOfMemory>
+    requires { IsName text.now }
+    ensures { IfOk result (λ e. IsSpelledExpr e) }
+{
+    Ok(var(alloc, text)?)
+}
+
+/// `uint64_t text = from;`
+fn declare(alloc: Global, text: &[u8], from: Expr) -> Result<Stmt, OutOfMemory>
+    requires name { IsName text.now }
+    requires from { IsSpelledExpr from }
+    ensures { IfOk result (λ s. IsSpelledStmt s) }
+{
+    Ok(Stmt::Number {
+        name: name(alloc, text)?,
+        from: Source::Value(from),
+    })
+}
+
+/// `uint64_t text = function(buf, len);`
+fn declare_call(alloc: Global, text: &[u8], function: &[u8]) -> Result<Stmt, OutOfMemory>
+    requires name { IsName text.now }
+    requires function { IsName function.now }
+    ensures { IfOk result (λ s. IsSpelledStmt s) }
+{
+    let mut args = ExprList::new(alloc);
+    args.push(var(alloc, b"buf")?)?;
+    args.push(var(alloc, b"len")?)?;
+    Ok(Stmt::Number {
+        name: name(alloc, text)?,
+        from: Source::Call {
+            name: name(alloc, function)?,
+            args,
+        },
+    })
+}
+
+/// `text = 0ull;`
+fn clear(alloc: Global, text: &[u8]) -> Result<Stmt, OutOfMemory>
+    requires { IsName text.now }
+    ensures { IfOk result (λ s. IsSpelledStmt s) }
+{
+    Ok(Stmt::Assign {
+        name: name(alloc, text)?,
+        from: Source::Value(Expr::Number(0)),
+    })
+}
+
+/// `for (uint64_t text = 0ull; text < len; text += 1ull) { inside }`
+fn repeat(alloc: Global, text: &[u8], inside: Stmt) -> Result<Stmt, OutOfMemory>
+    requires name { IsName text.now }
+    requires inside { IsSpelledStmt inside }
+    ensures { IfOk result (λ s. IsSpelledStmt s) }
+{
+    Ok(Stmt::For {
+        name: name(alloc, text)?,
+        bound: name(alloc, b"len")?,
+        body: one(alloc, inside)?,
+    })
+}
+
+/// `return 1ull;`
+fn done() -> Stmt
+    ensures { IsSpelledStmt result }
+{
+    Stmt::Return(Expr::Number(1))
+}
+
+/// `uint64_t text(const uint8_t *buf, uint64_t len) { first second }`
+fn function(
+    alloc: Global,
+    text: &[u8],
+    first: Stmt,
+    second: Stmt,
+) -> Result<CItem, OutOfMemory>
+    requires name { IsName text.now }
+    requires first { IsSpelledStmt first }
+    requires second { IsSpelledStmt second }
+    ensures { IfOk result (λ i. IsSpelledItem i) }
+{
+    let mut params = ParamList::new(alloc);
+    params.push(Param {
+        name: name(alloc, b"buf")?,
+        kind: ParamKind::ReadPointer,
+    })?;
+    params.push(Param {
+        name: name(alloc, b"len")?,
+        kind: ParamKind::Number,
+    })?;
+    let mut body = one(alloc, first)?;
+    body.push(second)?;
+    Ok(CItem::Function(Function {
+        name: name(alloc, text)?,
+        params,
+        body,
+    }))
+}
+
+/// A program of one function.
+fn program(alloc: Global, depth: u32, item: CItem) -> Result<Program, OutOfMemory>
+    requires { IsSpelledItem item }
+    ensures { IfOk result (λ p. IsSpelledProgram p) }
+{
+    Ok(Program {
+        depth,
+        items: one(alloc, item)?,
+    })
+}
+
+/// The fault of a program of one function with these two statements, whose depth is told to be 1.
+fn fault_of(alloc: Global, first: Stmt, second: Stmt) -> Result<Option<CFault>, OutOfMemory>
+    requires first { IsSpelledStmt first }
+    requires second { IsSpelledStmt second }
+{
+    let item = function(alloc, b"f", first, second)?;
+    match validate(alloc, program(alloc, 1, item)?) {
+        Ok(_) => Ok(None),
+        Err(fault) => Ok(Some(fault)),
+    }
+}
+
+#[test]
+fn a_variable_that_is_not_known_breaks_c1(rt: HostRuntime) -> Result<(), Fail> {
+    let alloc = rt.alloc();
+    let use_ = declare(alloc, b"n", variable(alloc, b"m")?)?;
+    let fault = fault_of(alloc, use_, done())?;
+    assert!(rt; fault == Some(CFault::Rule { rule: 1, item: 0, statement: 1 }));
+    Ok(())
+}
+
+#[test]
+fn a_pointer_in_place_of_a_number_breaks_c2(rt: HostRuntime) -> Result<(), Fail> {
+    let alloc = rt.alloc();
+    let fault = fault_of(alloc, declare(alloc, b"n", Expr::Number(1))?, Stmt::Return(variable(alloc, b"buf")?))?;
+    assert!(rt; fault == Some(CFault::Rule { rule: 2, item: 0, statement: 2 }));
+    Ok(())
+}
+
+#[test]
+fn a_function_that_calls_itself_breaks_c3(rt: HostRuntime) -> Result<(), Fail> {
+    let alloc = rt.alloc();
+    let fault = fault_of(alloc, declare_call(alloc, b"n", b"f")?, done())?;
+    assert!(rt; fault == Some(CFault::Rule { rule: 3, item: 0, statement: 1 }));
+    Ok(())
+}
+
+#[test]
+fn a_bound_that_is_assigned_in_its_loop_breaks_c4(rt: HostRuntime) -> Result<(), Fail> {
+    let alloc = rt.alloc();
+    let fault = fault_of(alloc, repeat(alloc, b"i", clear(alloc, b"len")?)?, done())?;
+    assert!(rt; fault == Some(CFault::Rule { rule: 4, item: 0, statement: 2 }));
+    Ok(())
+}
+
+#[test]
+fn a_function_without_a_return_breaks_c5(rt: HostRuntime) -> Result<(), Fail> {
+    let alloc = rt.alloc();
+    let fault = fault_of(alloc, clear(alloc, b"m")?, clear(alloc, b"len")?)?;
+    assert!(rt; fault == Some(CFault::Rule { rule: 5, item: 0, statement: 0 }));
+    Ok(())
+}
+
+#[test]
+fn a_variable_with_the_name_of_a_parameter_breaks_c6(rt: HostRuntime) -> Result<(), Fail> {
+    let alloc = rt.alloc();
+    let fault = fault_of(alloc, declare(alloc, b"len", Expr::Number(1))?, done())?;
+    assert!(rt; fault == Some(CFault::Rule { rule: 6, item: 0, statement: 1 }));
+    Ok(())
+}
+
+#[test]
+fn a_wrong_depth_breaks_c7(rt: HostRuntime) -> Result<(), Fail> {
+    let alloc = rt.alloc();
+    let item = function(alloc, b"f", declare(alloc, b"n", Expr::Number(1))?, done())?;
+    let fault = validate(alloc, program(alloc, 2, item)?).err();
+    assert!(rt; fault == Some(CFault::Rule { rule: 7, item: 0, statement: 0 }));
+    Ok(())
+}
+
+/// `uint64_t text(const uint8_t *buf, uint64_t len, struct cells *out) { return 1ull; }`
+fn reader(alloc: Global, text: &[u8]) -> Result<CItem, OutOfMemory>
+    requires { IsName text.now }
+    ensures { IfOk result (λ i. IsSpelledItem i) }
+{
+    let mut params = ParamList::new(alloc);
+    params.push(Param {
+        name: name(alloc, b"buf")?,
+        kind: ParamKind::ReadPointer,
+    })?;
+    params.push(Param {
+        name: name(alloc, b"len")?,
+        kind: ParamKind::Number,
+    })?;
+    params.push(Param {
+        name: name(alloc, b"out")?,
+        kind: ParamKind::Struct(name(alloc, b"cells")?),
+    })?;
+    Ok(CItem::Function(Function {
+        name: name(alloc, text)?,
+        params,
+        body: one(alloc, done())?,
+    }))
+}
+
+/// `struct cells { uint64_t v; };`
+fn cells(alloc: Global) -> Result<CItem, OutOfMemory>
+    ensures { IfOk result (λ i. IsSpelledItem i) }
+{
+    let cell = CellInfo {
+        name: name(alloc, b"v")?,
+        kind: CellKind::Number,
+    };
+    Ok(CItem::Struct(StructDecl {
+        name: name(alloc, b"cells")?,
+        cells: one(alloc, cell)?,
+    }))
+}
+
+/// A program of five items.
+fn five(alloc: Global, depth: u32, a: CItem, b: CItem, c: CItem, d: CItem, e: CItem) -> Result<Program, OutOfMemory>
+    requires first { IsSpelledItem a }
+    requires second { IsSpelledItem b }
+    requires third { IsSpelledItem c }
+    requires fourth { IsSpelledItem d }
+    requires fifth { IsSpelledItem e }
+    ensures { IfOk result (λ p. IsSpelledProgram p) }
+{
+    let mut items = CItemList::new(alloc);
+    items.push(a)?;
+    items.push(b)?;
+    items.push(c)?;
+    items.push(d)?;
+    items.push(e)?;
+    Ok(Program { depth, items })
+}
+
+#[test]
+fn a_valid_program_has_its_depth_its_spaces_and_its_functions(rt: HostRuntime) -> Result<(), Fail> {
+    let alloc = rt.alloc();
+    let inner = function(alloc, b"inner", declare(alloc, b"n", Expr::Number(1))?, done())?;
+    let middle = function(alloc, b"middle", declare_call(alloc, b"n", b"inner")?, done())?;
+    let outer = function(alloc, b"outer", declare_call(alloc, b"n", b"middle")?, done())?;
+    let read = reader(alloc, b"read")?;
+    let judged = validate(alloc, five(alloc, 3, cells(alloc)?, inner, middle, read, outer)?);
+    assert!(rt; judged.is_ok());
+    if let Ok(valid) = judged {
+        assert!(rt; valid.call_depth() == 3);
+        assert!(rt; valid.spaces() == 9);
+        assert!(rt; valid.function("middle") == Some(2));
+        assert!(rt; valid.function("cells").is_none());
+        assert!(rt; valid.is_reader(3));
+        assert!(rt; !valid.is_reader(0));
+        assert!(rt; !valid.is_reader(2));
+        assert!(rt; !valid.is_reader(5));
+    }
+    Ok(())
+}
+
+#[test]
+fn an_earlier_item_is_named_before_a_lesser_rule(rt: HostRuntime) -> Result<(), Fail> {
+    let alloc = rt.alloc();
+    let late = function(alloc, b"late", declare(alloc, b"n", variable(alloc, b"m")?)?, done())?;
+    let early = function(alloc, b"early", declare_call(alloc, b"n", b"late")?, done())?;
+    let read = reader(alloc, b"read")?;
+    let twin = reader(alloc, b"read")?;
+    let fault = validate(alloc, five(alloc, 9, cells(alloc)?, read, early, late, twin)?).err();
+    assert!(rt; fault == Some(CFault::Rule { rule: 3, item: 2, statement: 1 }));
+    Ok(())
+}
+
+/// `(!(!( .. 1ull .. )))`
+fn negations(alloc: Global, count: u32) -> Result<Expr, OutOfMemory>
+    ensures { IfOk result (λ e. IsSpelledExpr e) }
+{
+    let mut expr = Expr::Number(1);
+    for _ in 0..count {
+        expr = Expr::Not(Boxed::new(alloc, expr)?);
+    }
+    Ok(expr)
+}
+
+#[test]
+fn expressions_beyond_a_thousand_levels_are_too_deep(rt: HostRuntime) -> Result<(), Fail> {
+    let alloc = rt.alloc();
+    let deep = fault_of(alloc, declare(alloc, b"n", negations(alloc, 1_000)?)?, done())?;
+    assert!(rt; deep == Some(CFault::OutOfMemory));
+    let flat = fault_of(alloc, declare(alloc, b"n", negations(alloc, 999)?)?, done())?;
+    assert!(rt; flat == Some(CFault::Rule { rule: 2, item: 0, statement: 1 }));
+    Ok(())
+}
+
+/// `for (uint64_t i = 0ull; i < len; i += 1ull) { for .. }`
+fn nested(alloc: Global, count: u32) -> Result<Stmt, OutOfMemory>
+    ensures { IfOk result (λ s. IsSpelledStmt s) }
+{
+    let mut stmt = done();
+    for _ in 0..count {
+        stmt = repeat(alloc, b"i", stmt)?;
+    }
+    Ok(stmt)
+}
+
+#[test]
+fn statements_beyond_a_thousand_levels_are_too_deep(rt: HostRuntime) -> Result<(), Fail> {
+    let alloc = rt.alloc();
+    let deep = fault_of(alloc, nested(alloc, 1_000)?, done())?;
+    assert!(rt; deep == Some(CFault::OutOfMemory));
+    let flat = fault_of(alloc, nested(alloc, 999)?, done())?;
+    assert!(rt; flat == Some(CFault::Rule { rule: 6, item: 0, statement: 2 }));
+    Ok(())
+}
