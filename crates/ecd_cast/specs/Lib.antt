@@ -10,3 +10,4 @@ pub mod Ends
 pub mod Kept
 pub mod Rules
 pub mod Laws
+pub mod Fitting
