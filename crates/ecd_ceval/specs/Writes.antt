@@ -1,0 +1,41 @@
+-- What is written, and where.
+use Rattle.std.specs.Prelude.{ℕ, zero, suc, ◌+◌, ◌%◌, Bool, true, false, ◌≡◌, List, [], ◌∷◌, map, length, Option, Some, None, Result, Ok, Err, slice_get, nat_lt, if◌then◌else◌, bytes_eq}
+use Rattle.ecd_cast.specs.declared.tree.CellInfo.{CellInfo}
+use Rattle.ecd_cast.specs.declared.value.Value.{Value}
+use Rattle.ecd_cast.specs.declared.value.Value.TheVariants.{Number as Num, Bytes as Ptr}
+use Rattle.ecd_cast.specs.Memory.{Name, Memory, Block, Bytes, Cells, Event, WritesByte, event}
+use Rattle.ecd_ceval.specs.declared.blocks.Held.{Held}
+use Rattle.ecd_ceval.specs.declared.blocks.ByteWrite.{ByteWrite}
+use Rattle.ecd_ceval.specs.declared.reason.Reason.{Reason}
+use Rattle.ecd_ceval.specs.Outcomes.{number_of}
+use Rattle.ecd_ceval.specs.Blocks.{memory_of, lasting_of}
+
+-- no cell has this name
+abbrev pub IsNoCell : Name → List CellInfo → Type 0
+IsNoCell x [] = Unit {0}
+IsNoCell x (i ∷ is) = (bytes_eq i.name x ≡ false) × IsNoCell x is
+
+-- the first cell of this name stands at this place
+abbrev pub IsFirstCell : Name → List CellInfo → ℕ → Type 0
+IsFirstCell x [] at = ⊥
+IsFirstCell x (i ∷ is) zero = bytes_eq i.name x ≡ true
+IsFirstCell x (i ∷ is) (suc at) = (bytes_eq i.name x ≡ false) × IsFirstCell x is at
+
+-- the write of a store, or the reason that there is none
+abbrev pub stored_in : Option Block → ℕ → ℕ → ℕ → Result Event ℕ
+stored_in (Some (Bytes bytes)) block at n = if nat_lt at (length bytes) then Ok (WritesByte block at (n % 256)) else Err 2
+stored_in (Some (Cells cells)) block at n = Err 0
+stored_in None block at n = Err 0
+
+abbrev pub stored : Memory → Value → Value → Value → Result Event ℕ
+stored m (Ptr block offset) (Num i) (Num n) = stored_in (slice_get m block) block (offset + i) n
+stored m _ _ _ = Err 0
+
+abbrev pub byte_outcome : Result ByteWrite Reason → Result Event ℕ
+byte_outcome (Ok w) = Ok (WritesByte w.block w.at w.byte)
+byte_outcome (Err r) = Err (number_of r)
+
+-- the blocks after a write: the memory is as the write makes it, and what lasts stays
+pub record IsWritten (e : Event) (old new : List Held) : Type 0 where
+  pub memory : memory_of new ≡ event e (memory_of old)
+  pub lasting : map lasting_of new ≡ map lasting_of old
