@@ -4,4 +4,7 @@ pub mod Writes
 pub mod Scopes
 pub mod Places
 pub mod Steps
+pub mod Following
+pub mod Functions
+pub mod Targets
 pub mod Operators

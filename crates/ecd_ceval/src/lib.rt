@@ -2,9 +2,14 @@
 #![tactic(auto)]
 
 mod blocks;
+mod context;
 mod count;
 mod expressions;
+mod functions;
 mod meter;
 mod reason;
+mod simple;
+mod state;
+mod statements;
 mod stop;
 mod variables;
