@@ -8,6 +8,7 @@ use Rattle.ecd_cast.specs.Meaning.{Run, Falls, Returns, Stuck, doing, and_then, 
 use Rattle.ecd_cast.proofs.Calculus.{steps-append, after-append}
 use Rattle.std.proofs.lemmas.List.{drop_all, take_all}
 use Rattle.ecd_cast.proofs.Frame.{steps}
+use Rattle.ecd_ceval.specs.declared.blocks.Held.{Held}
 use Rattle.ecd_ceval.specs.declared.meter.Meter.{Meter}
 use Rattle.ecd_ceval.specs.declared.meter.Meter.TheVariants.{Left, Taken}
 use Rattle.ecd_ceval.specs.declared.stop.Flow.{Flow}
@@ -15,7 +16,7 @@ use Rattle.ecd_ceval.specs.declared.stop.Flow.TheVariants as flow
 use Rattle.ecd_ceval.specs.declared.stop.Stop.{Stop}
 use Rattle.ecd_ceval.specs.declared.stop.Stop.TheVariants as stop
 use Rattle.ecd_ceval.specs.declared.state.State.{State}
-use Rattle.ecd_ceval.specs.Blocks.{block_of, lasting_of}
+use Rattle.ecd_ceval.specs.Blocks.{block_of, lasting_of, AreAllHeld}
 use Rattle.ecd_ceval.specs.Steps.{Passes}
 use Rattle.ecd_ceval.specs.Following.{memory_in, Whole, Part, Spends, Wants, IsCut, Follows}
 
@@ -78,13 +79,14 @@ first_fewer (Step ∷ a) b (suc k) lt = ap (λ l. Step ∷ l) (first_fewer a b k
 -- ---- whole and part
 
 pub whole_none : (s : State) → Whole [] s s
-whole_none s = record { memory = refl; meter = passes_zero s.meter; lasting = refl }
+whole_none s = record { memory = refl; meter = passes_zero s.meter; lasting = refl; kept = λ structs h. h }
 
 pub whole_then : (a b : List Event) (old mid new : State) → Whole a old mid → Whole b mid new → Whole (a ++ b) old new
 whole_then a b old mid new h k = record {
   memory = k.memory ∙ (ap (after b) h.memory ∙ sym (after-append a b (memory_in old)));
   meter = subst (λ n. Passes old.meter n new.meter) (sym (steps-append a b)) (passes_then old.meter mid.meter new.meter (steps_of a) (steps_of b) h.meter k.meter);
   lasting = k.lasting ∙ h.lasting;
+  kept = λ structs a. k.kept structs (h.kept structs a);
 }
 
 pub part_then : (a b : List Event) (k : ℕ) (old mid new : State) → Whole a old mid → Part b k mid new → Part (a ++ b) (steps_of a + k) old new
@@ -93,6 +95,7 @@ part_then a b k old mid new h p = record {
   memory = p.memory ∙ (ap (after (first_steps k b)) h.memory ∙ (sym (after-append a (first_steps k b) (memory_in old)) ∙ ap (λ l. after l (memory_in old)) (sym (first-then a b k))));
   meter = passes_then old.meter mid.meter new.meter (steps_of a) k h.meter p.meter;
   lasting = p.lasting ∙ h.lasting;
+  kept = λ structs a. p.kept structs (h.kept structs a);
 }
 
 pub part_whole : (a : List Event) (old new : State) → Whole a old new → Part a (steps_of a) old new
@@ -101,6 +104,7 @@ part_whole a old new h = record {
   memory = h.memory ∙ ap (λ l. after l (memory_in old)) (sym (steps.whole a));
   meter = h.meter;
   lasting = h.lasting;
+  kept = h.kept;
 }
 
 pub part_more : (a b : List Event) (k : ℕ) (old new : State) → Waits b → Part a k old new → Part (a ++ b) k old new
@@ -109,6 +113,7 @@ part_more a b k old new w p = record {
   memory = p.memory ∙ sym (first_more a b k (memory_in old) p.few w);
   meter = p.meter;
   lasting = p.lasting;
+  kept = p.kept;
 }
 
 part_fewer : (a b : List Event) (k : ℕ) (old new : State) → k < steps_of a → Part a k old new → Part (a ++ b) k old new
@@ -117,6 +122,7 @@ part_fewer a b k old new lt p = record {
   memory = p.memory ∙ ap (λ l. after l (memory_in old)) (sym (first_fewer a b k lt));
   meter = p.meter;
   lasting = p.lasting;
+  kept = p.kept;
 }
 
 -- ---- cuts
@@ -203,12 +209,12 @@ pub follows_spent : (r : Run) (env : Scopes) (old : State) → old.meter ≡ Lef
 follows_spent r env old e =
     cut_run (doing (Step ∷ []) r) stop.Spent env old old
     (subst (λ (l : List Event). IsCut l stop.Spent old old) (sym (events-doing (Step ∷ []) r))
-    (record { steps = 0; over = omega arith; spent = e; part = record { few = omega arith; memory = refl; meter = passes_zero old.meter; lasting = refl } }))
+    (record { steps = 0; over = omega arith; spent = e; part = record { few = omega arith; memory = refl; meter = passes_zero old.meter; lasting = refl; kept = λ structs h. h } }))
 
 -- memory is wanting before the first step
 pub follows_want : (r : Run) (env : Scopes) (old : State) → Waits (events_of r) → Follows r (Err stop.OutOfMemory) env old old
 follows_want r env old w =
-    cut_run r stop.OutOfMemory env old old (record { steps = 0; part = record { few = omega arith; memory = sym (w.quiet (memory_in old)); meter = passes_zero old.meter; lasting = refl } })
+    cut_run r stop.OutOfMemory env old old (record { steps = 0; part = record { few = omega arith; memory = sym (w.quiet (memory_in old)); meter = passes_zero old.meter; lasting = refl; kept = λ structs h. h } })
 
 -- memory is wanting behind the whole run
 pub follows_late : (r : Run) (env next : Scopes) (old new : State) (f : Flow) → Follows r (Ok f) env old new → Follows r (Err stop.OutOfMemory) next old new
@@ -234,6 +240,7 @@ want_begun r env old new e k =
         memory = ap (map block_of) e ∙ sym ((waits_doing r).quiet (memory_in old));
         meter = subst (λ (m : Meter). Passes old.meter 0 m) (sym k) (passes_zero old.meter);
         lasting = ap (map lasting_of) e;
+        kept = λ structs a. subst (λ (l : List Held). AreAllHeld structs l) (sym e) a;
       };
     })
 
@@ -242,3 +249,8 @@ pub same_items : {A : Type 0} (n : ℕ) (new old : List A) → new ≡ old → l
 same_items n new old e h =
     ap (λ l. take n (l ++ drop (length l) old)) e ∙
     (ap (λ l. take n (old ++ l)) (drop_all (length old) old (omega arith)) ∙ (ap (take n) (append-nil old) ∙ take_all n old (omega arith)))
+
+-- a list that is written back, of the same length
+pub written_items : {A : Type 0} (n : ℕ) (new old : List A) → length new ≡ n → length old ≡ n → take n (new ++ drop (length new) old) ≡ new
+written_items n new old e h =
+    ap (λ l. take n (new ++ l)) (drop_all (length new) old (omega arith)) ∙ (ap (take n) (append-nil new) ∙ take_all n new (omega arith))

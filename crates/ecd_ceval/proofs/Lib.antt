@@ -1,5 +1,7 @@
 pub mod Slots
 pub mod Values
+pub mod Stores
+pub mod Keeping
 pub mod Running
 pub mod Calling
 pub mod Following

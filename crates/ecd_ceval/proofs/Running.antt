@@ -162,10 +162,10 @@ turns_end k i x body env now whole from e o =
 -- ---- a function that is entered
 
 enters : (s : State) → Whole (Enters ∷ []) s s
-enters s = record { memory = refl; meter = passes_zero s.meter; lasting = refl }
+enters s = record { memory = refl; meter = passes_zero s.meter; lasting = refl; kept = λ structs h. h }
 
 leaves : (s : State) → Whole (Leaves ∷ []) s s
-leaves s = record { memory = refl; meter = passes_zero s.meter; lasting = refl }
+leaves s = record { memory = refl; meter = passes_zero s.meter; lasting = refl; kept = λ structs h. h }
 
 ended_returns : (at n : ℕ) (r : Run) (env : Scopes) (now new : State) → Follows r (Ok (flow.Returns n)) env now new → Follows (ended at r) (Ok (flow.Returns n)) [] now new
 ended_returns at n (Falls e es) env now new h = absurd h.by
@@ -355,3 +355,14 @@ turn_stops x i body env env1 next now mid new y tick h =
     let same : Follows (body (((x, Num i) ∷ []) ∷ env) m) (Err y) env1 mid new = subst (λ (n : Memory). Follows (body (((x, Num i) ∷ []) ∷ env) n) (Err y) env1 mid new) tick.memory h in
     follows_doing (Step ∷ []) (and_then (body (((x, Num i) ∷ []) ∷ env) m) m (λ next m'. fall (leave next))) (Err y) next now mid new tick
     (follows_stop (body (((x, Num i) ∷ []) ∷ env) m) (λ next m'. fall (leave next)) y env1 next mid new m waits_left same)
+
+pub turn_flows : (x : Name) (i : ℕ) (body : Code) (env env1 : Scopes) (now mid new : State) (f : Flow) → Whole (Step ∷ []) now mid → Follows (body (((x, Num i) ∷ []) ∷ env) (memory_in mid)) (Ok f) env1 mid new →
+    Follows (turn_run x i body env (memory_in now)) (Ok f) (leave env1) now new
+turn_flows x i body env env1 now mid new f tick h =
+    let m = memory_in now in
+    follows_doing (Step ∷ []) (and_then (body (((x, Num i) ∷ []) ∷ env) m) m (λ next m'. fall (leave next))) (Ok f) (leave env1) now mid new tick
+    (subst (λ (n : Memory). Follows (and_then (body (((x, Num i) ∷ []) ∷ env) n) n (λ next m'. fall (leave next))) (Ok f) (leave env1) mid new) tick.memory (by f h))
+  where
+    by : (f : Flow) → Follows (body (((x, Num i) ∷ []) ∷ env) (memory_in mid)) (Ok f) env1 mid new → Follows (and_then (body (((x, Num i) ∷ []) ∷ env) (memory_in mid)) (memory_in mid) (λ next m'. fall (leave next))) (Ok f) (leave env1) mid new
+    by flow.Falls h = follows_then (body (((x, Num i) ∷ []) ∷ env) (memory_in mid)) (λ next m'. fall (leave next)) (Ok flow.Falls) env1 (leave env1) mid new new h (follows_fall (leave env1) new)
+    by (flow.Returns n) h = follows_return (body (((x, Num i) ∷ []) ∷ env) (memory_in mid)) (λ next m'. fall (leave next)) n env1 (leave env1) mid new (memory_in mid) h

@@ -1,6 +1,7 @@
 -- Cells by their names, and what a write does.
 use Rattle.std.proofs.Common.{◌≡◌, ℕ, zero, suc, ◌+◌, ◌<◌, Bool, true, false, List, [], ◌∷◌, length, get_or, set, take, map, refl, ap, sym, subst, ◌∙◌, arith}
-use Rattle.std.specs.Prelude.{Option, Some, None, slice_get, slice_set, if◌then◌else◌, bytes_eq, Vec}
+use Rattle.std.specs.Prelude.{Option, Some, None, slice_get, slice_set, nat_le, if◌then◌else◌, bytes_eq, Vec}
+use denote.Bor.{Bor}
 use Rattle.std.specs.Option.{option_map}
 use Rattle.std.specs.declared.alloc.Global.{Global}
 use Rattle.std.proofs.lemmas.List.{map-set, length-set}
@@ -11,11 +12,13 @@ use Rattle.ecd_cast.specs.declared.tree.CellInfo.{CellInfo}
 use Rattle.ecd_cast.specs.declared.tree.StructDecl.{StructDecl}
 use Rattle.ecd_cast.specs.declared.value.Cell.{Cell}
 use Rattle.ecd_cast.specs.Memory.{Name, Memory, Block, Bytes, Cells, Event, WritesByte, WritesCell, event, with_cell, with_byte_in, with_cell_in}
+use Rattle.ecd_cast.specs.Fitting.{is_place_in, AreCellsOf}
 use Rattle.ecd_cast.specs.Expressions.{Outcome, Gives, Fails, held, cell_named}
 use Rattle.ecd_ceval.specs.declared.blocks.Held.{Held}
 use Rattle.ecd_ceval.specs.declared.blocks.Held.TheVariants.{Fixed as HeldFixed, Output as HeldOutput, Cells as HeldCells}
-use Rattle.ecd_ceval.specs.Blocks.{named, block_of, memory_of, lasting_of}
-use Rattle.ecd_ceval.specs.Writes.{IsNoCell, IsFirstCell, IsWritten}
+use Rattle.ecd_ceval.specs.Blocks.{named, block_of, memory_of, lasting_of, OutputOf}
+use Rattle.ecd_ceval.specs.Writes.{IsNoCell, IsFirstCell, IsWritten, MayWrite, MayWriteIn}
+use Rattle.ecd_ceval.proofs.Keeping.{at_block, cells_set, kept_by}
 
 -- ---- the first cell of a name
 
@@ -79,20 +82,31 @@ block_there blocks i d b lt e = slice_get-map block_of blocks i ∙ ap (option_m
 pub byte_written : (blocks : List Held) (i at byte : ℕ) (d : Held) (bytes bytes' : Vec ℕ Global) → i < length blocks → get_or blocks i d ≡ HeldOutput bytes → bytes'.items ≡ set bytes.items at byte →
     IsWritten (WritesByte i at byte) blocks (set blocks i (HeldOutput bytes'))
 byte_written blocks i at byte d bytes bytes' lt e h = record {
-  memory =
-      map-set block_of blocks i (HeldOutput bytes') ∙
-      (ap (λ l. set (memory_of blocks) i (Bytes l)) h ∙ ap (λ o. with_byte_in o at byte (memory_of blocks) i) (sym (block_there blocks i d (HeldOutput bytes) lt e)));
-  lasting = map-set_same lasting_of blocks i (HeldOutput bytes') d (ap (λ l. lasting_of (HeldOutput bytes')) h ∙ long ∙ ap lasting_of (sym e));
+  memory = map-set block_of blocks i (HeldOutput bytes') ∙ (ap (λ l. set (memory_of blocks) i (Bytes l)) h ∙ ap (λ o. with_byte_in o at byte (memory_of blocks) i) (sym there));
+  lasting = map-set_same lasting_of blocks i (HeldOutput bytes') d (ap OutputOf long ∙ ap lasting_of (sym e));
+  kept = λ structs. kept_by structs blocks i (HeldOutput bytes') (λ offset. ap (λ o. is_place_in o offset) there ∙ ap (λ n. nat_le offset n) (sym long)) (λ all. tt);
 }
   where
-    long : lasting_of (HeldOutput bytes') ≡ lasting_of (HeldOutput bytes)
-    long = rw (h, length-set)
+    long : length bytes'.items ≡ length bytes.items
+    long = ap length h ∙ length-set bytes.items at byte
 
-pub cell_written : (blocks : List Held) (i : ℕ) (x : Name) (c : Cell) (d old new : Held) (cells : List (Name × Cell)) → i < length blocks → get_or blocks i d ≡ old → block_of old ≡ Cells cells → block_of new ≡ Cells (with_cell cells x c) →
-    lasting_of new ≡ lasting_of old → IsWritten (WritesCell i x c) blocks (set blocks i new)
-cell_written blocks i x c d old new cells lt e h k last = record {
+    there : slice_get (memory_of blocks) i ≡ Some (Bytes bytes.items)
+    there = block_there blocks i d (HeldOutput bytes) lt e
+
+pub cell_written : (blocks : List Held) (i number at : ℕ) (x : Name) (c : Cell) (d : Held) (s : Bor StructDecl) (cells cells' : Vec Cell Global) → i < length blocks → get_or blocks i d ≡ HeldCells number s cells → cells'.items ≡ set cells.items at c →
+    MayWrite blocks i x c at → IsWritten (WritesCell i x c) blocks (set blocks i (HeldCells number s cells'))
+cell_written blocks i number at x c d s cells cells' lt e h w = record {
   memory =
-      map-set block_of blocks i new ∙
-      (ap (λ b. set (memory_of blocks) i b) k ∙ ap (λ o. with_cell_in o x c (memory_of blocks) i) (sym (block_there blocks i d old lt e ∙ ap Some h)));
-  lasting = map-set_same lasting_of blocks i new d (last ∙ ap lasting_of (sym e));
+      map-set block_of blocks i (HeldCells number s cells') ∙
+      (ap (λ l. set (memory_of blocks) i (Cells l)) (ap (named s.now.cells) h ∙ set_first x s.now.cells cells.items at c may.0) ∙ ap (λ o. with_cell_in o x c (memory_of blocks) i) (sym there));
+  lasting = map-set_same lasting_of blocks i (HeldCells number s cells') d (ap lasting_of (sym e));
+  kept = λ structs. kept_by structs blocks i (HeldCells number s cells') (λ offset. ap (λ o. is_place_in o offset) there)
+      (λ all. let was = at_block structs (memory_of blocks) blocks i d (HeldCells number s cells) lt e all in
+      (was.0, ap length h ∙ (length-set cells.items at c ∙ was.1), subst (λ (l : List Cell). AreCellsOf (memory_of blocks) s.now.cells (named s.now.cells l)) (sym h) (cells_set (memory_of blocks) s.now.cells cells.items at c may.1 was.2)));
 }
+  where
+    there : slice_get (memory_of blocks) i ≡ Some (Cells (named s.now.cells cells.items))
+    there = block_there blocks i d (HeldCells number s cells) lt e
+
+    may : MayWriteIn (memory_of blocks) (Some (HeldCells number s cells)) x c at
+    may = subst (λ (o : Option Held). MayWriteIn (memory_of blocks) o x c at) (slice_get-get_or blocks i d lt ∙ ap Some e) w.may

@@ -1,9 +1,10 @@
 -- What contracts see of a machine's blocks.
-use Rattle.std.specs.Prelude.{ℕ, List, [], ◌∷◌, map, length}
+use Rattle.std.specs.Prelude.{ℕ, ◌≡◌, List, [], ◌∷◌, map, length, Some, slice_get}
 use Rattle.ecd_cast.specs.declared.tree.CellInfo.{CellInfo}
+use Rattle.ecd_cast.specs.declared.tree.StructDecl.{StructDecl}
 use Rattle.ecd_cast.specs.declared.value.Cell.{Cell}
 use Rattle.ecd_cast.specs.Memory.{Name, Memory, Block, Bytes, Cells}
-use Rattle.ecd_cast.specs.Fitting.{BlockKind, Fixed, Output, CellsOf}
+use Rattle.ecd_cast.specs.Fitting.{BlockKind, Fixed, Output, CellsOf, AreCellsOf}
 use Rattle.ecd_ceval.specs.declared.blocks.Held.{Held}
 use Rattle.ecd_ceval.specs.declared.blocks.Held.TheVariants.{Fixed as HeldFixed, Output as HeldOutput, Cells as HeldCells}
 
@@ -37,3 +38,17 @@ abbrev pub lasting_of : Held → Lasting
 lasting_of (HeldFixed bytes) = FixedBytes bytes.now
 lasting_of (HeldOutput bytes) = OutputOf (length bytes.items)
 lasting_of (HeldCells number declaration cells) = CellsOfStruct number
+
+-- a block of cells is that of its struct, and each cell holds what its kind may hold
+abbrev pub IsHeld : List StructDecl → Memory → Held → Type 0
+IsHeld structs m (HeldFixed bytes) = Unit {0}
+IsHeld structs m (HeldOutput bytes) = Unit {0}
+IsHeld structs m (HeldCells number declaration cells) =
+    (slice_get structs number ≡ Some declaration.now) × (length cells.items ≡ length declaration.now.cells) × AreCellsOf m declaration.now.cells (named declaration.now.cells cells.items)
+
+abbrev pub AreHeld : List StructDecl → Memory → List Held → Type 0
+AreHeld structs m [] = Unit {0}
+AreHeld structs m (b ∷ bs) = IsHeld structs m b × AreHeld structs m bs
+
+pub record AreAllHeld (structs : List StructDecl) (blocks : List Held) : Type 0 where
+  pub all : AreHeld structs (memory_of blocks) blocks

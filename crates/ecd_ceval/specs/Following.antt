@@ -1,6 +1,7 @@
 -- How an evaluation follows a run.
 use Rattle.std.specs.Prelude.{ℕ, ◌≡◌, ◌≤◌, ◌<◌, List, [], ◌∷◌, map, take, Result, Ok, Err}
 use Rattle.ecd_cast.specs.declared.tree.CItem.{CItem}
+use Rattle.ecd_cast.specs.declared.tree.StructDecl.{StructDecl}
 use Rattle.ecd_cast.specs.declared.tree.Expr.{Expr}
 use Rattle.ecd_cast.specs.declared.tree.Stmt.{Stmt}
 use Rattle.ecd_cast.specs.declared.value.Value.{Value}
@@ -15,7 +16,7 @@ use Rattle.ecd_ceval.specs.declared.stop.Flow.TheVariants as flow
 use Rattle.ecd_ceval.specs.declared.stop.Stop.{Stop}
 use Rattle.ecd_ceval.specs.declared.stop.Stop.TheVariants as stop
 use Rattle.ecd_ceval.specs.declared.state.State.{State}
-use Rattle.ecd_ceval.specs.Blocks.{memory_of, lasting_of}
+use Rattle.ecd_ceval.specs.Blocks.{memory_of, lasting_of, AreAllHeld}
 use Rattle.ecd_ceval.specs.Steps.{Passes}
 
 abbrev pub memory_in : State → Memory
@@ -26,6 +27,7 @@ pub record Whole (es : List Event) (old new : State) : Type 0 where
   pub memory : memory_in new ≡ after es (memory_in old)
   pub meter : Passes old.meter (steps_of es) new.meter
   pub lasting : map lasting_of new.blocks.items ≡ map lasting_of old.blocks.items
+  pub kept : (structs : List StructDecl) → AreAllHeld structs old.blocks.items → AreAllHeld structs new.blocks.items
 
 -- the events of so many steps were done, which are at most all
 pub record Part (es : List Event) (steps : ℕ) (old new : State) : Type 0 where
@@ -33,6 +35,7 @@ pub record Part (es : List Event) (steps : ℕ) (old new : State) : Type 0 where
   pub memory : memory_in new ≡ after (first_steps steps es) (memory_in old)
   pub meter : Passes old.meter steps new.meter
   pub lasting : map lasting_of new.blocks.items ≡ map lasting_of old.blocks.items
+  pub kept : (structs : List StructDecl) → AreAllHeld structs old.blocks.items → AreAllHeld structs new.blocks.items
 
 -- the limit came before the last step
 pub record Spends (es : List Event) (old new : State) : Type 0 where

@@ -6,5 +6,6 @@ pub mod Places
 pub mod Steps
 pub mod Following
 pub mod Functions
+pub mod Machines
 pub mod Targets
 pub mod Operators

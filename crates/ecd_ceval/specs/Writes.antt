@@ -1,14 +1,18 @@
 -- What is written, and where.
 use Rattle.std.specs.Prelude.{ℕ, zero, suc, ◌+◌, ◌%◌, Bool, true, false, ◌≡◌, List, [], ◌∷◌, map, length, Option, Some, None, Result, Ok, Err, slice_get, nat_lt, if◌then◌else◌, bytes_eq}
 use Rattle.ecd_cast.specs.declared.tree.CellInfo.{CellInfo}
+use Rattle.ecd_cast.specs.declared.tree.StructDecl.{StructDecl}
+use Rattle.ecd_cast.specs.declared.value.Cell.{Cell}
+use Rattle.ecd_cast.specs.Fitting.{may_hold}
 use Rattle.ecd_cast.specs.declared.value.Value.{Value}
 use Rattle.ecd_cast.specs.declared.value.Value.TheVariants.{Number as Num, Bytes as Ptr}
 use Rattle.ecd_cast.specs.Memory.{Name, Memory, Block, Bytes, Cells, Event, WritesByte, event}
 use Rattle.ecd_ceval.specs.declared.blocks.Held.{Held}
+use Rattle.ecd_ceval.specs.declared.blocks.Held.TheVariants.{Fixed as HeldFixed, Output as HeldOutput, Cells as HeldCells}
 use Rattle.ecd_ceval.specs.declared.blocks.ByteWrite.{ByteWrite}
 use Rattle.ecd_ceval.specs.declared.reason.Reason.{Reason}
 use Rattle.ecd_ceval.specs.Outcomes.{number_of}
-use Rattle.ecd_ceval.specs.Blocks.{memory_of, lasting_of}
+use Rattle.ecd_ceval.specs.Blocks.{memory_of, lasting_of, AreAllHeld}
 
 -- no cell has this name
 abbrev pub IsNoCell : Name → List CellInfo → Type 0
@@ -35,7 +39,22 @@ abbrev pub byte_outcome : Result ByteWrite Reason → Result Event ℕ
 byte_outcome (Ok w) = Ok (WritesByte w.block w.at w.byte)
 byte_outcome (Err r) = Err (number_of r)
 
--- the blocks after a write: the memory is as the write makes it, and what lasts stays
+-- the blocks after a write: the memory is as the write makes it, what lasts stays, and cells keep their kinds
 pub record IsWritten (e : Event) (old new : List Held) : Type 0 where
   pub memory : memory_of new ≡ event e (memory_of old)
   pub lasting : map lasting_of new ≡ map lasting_of old
+  pub kept : (structs : List StructDecl) → AreAllHeld structs old → AreAllHeld structs new
+
+abbrev pub kind_holds : Memory → Option CellInfo → Cell → Bool
+kind_holds m (Some i) c = may_hold m i.kind c
+kind_holds m None c = false
+
+abbrev pub MayWriteIn : Memory → Option Held → Name → Cell → ℕ → Type 0
+MayWriteIn m (Some (HeldCells number declaration cells)) x to at = IsFirstCell x declaration.now.cells at × (kind_holds m (slice_get declaration.now.cells at) to ≡ true)
+MayWriteIn m (Some (HeldFixed bytes)) x to at = ⊥
+MayWriteIn m (Some (HeldOutput bytes)) x to at = ⊥
+MayWriteIn m None x to at = ⊥
+
+-- the cell of a name is at this place of a block, and may hold this
+pub record MayWrite (blocks : List Held) (block : ℕ) (x : Name) (to : Cell) (at : ℕ) : Type 0 where
+  pub may : MayWriteIn (memory_of blocks) (slice_get blocks block) x to at

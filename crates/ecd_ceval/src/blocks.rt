@@ -1,16 +1,17 @@
 //! The blocks of a machine's memory, read and written.
 
-ghost use Rattle.std.specs.Prelude.{◌≡◌, ◌+◌, slice_get, nat_le, if◌then◌else◌, length, MatchOption, MatchBool};
+ghost use Rattle.std.specs.Prelude.{◌≡◌, ◌+◌, slice_get, nat_le, if◌then◌else◌, length, MatchOption, MatchBool, IfSome};
 ghost use Rattle.ecd_cast.specs.Expressions as meaning;
+ghost use Rattle.ecd_cast.specs.Fitting as fitting;
 ghost use Rattle.ecd_cast.specs.declared.value.Value.TheVariants.{Bytes as Ptr};
 ghost use Rattle.ecd_cast.specs.Expressions.{Gives, Fails};
 ghost use Rattle.ecd_ceval.specs.Outcomes.{outcome};
 ghost use Rattle.ecd_cast.specs.Memory.{WritesByte, WritesCell};
 ghost use Rattle.ecd_ceval.specs.Blocks.{memory_of, named};
-ghost use Rattle.ecd_ceval.specs.Writes.{IsNoCell, IsFirstCell, byte_outcome, stored, IsWritten};
+ghost use Rattle.ecd_ceval.specs.Writes.{IsNoCell, IsFirstCell, byte_outcome, stored, IsWritten, MayWrite};
 
 use crate::reason::{Outcome, Reason};
-use ecd_cast::tree::{CellInfo, StructDecl};
+use ecd_cast::tree::{CellInfo, CellKind, StructDecl};
 use ecd_cast::value::{Cell, Value};
 
 /// A block of a machine.
@@ -185,29 +186,70 @@ pub fn write_byte(blocks: &mut [Held<'_>], write: ByteWrite) -> bool
     }
 }
 
-/// Writes a cell, or answers that the block has none of that name.
+/// Whether a pointer may point there: into a block of bytes, at most to its end.
+pub fn is_place(blocks: &[Held<'_>], block: u32, offset: u64) -> bool
+    ensures { result ≡ fitting.is_place (memory_of blocks.now) block offset }
+{
+    match blocks.get(block as usize) {
+        Some(Held::Fixed(bytes)) => offset <= bytes.len() as u64,
+        Some(Held::Output(bytes)) => offset <= bytes.len() as u64,
+        _ => false,
+    }
+}
+
+/// Whether a cell of a kind may hold this.
+pub fn may_hold(blocks: &[Held<'_>], kind: CellKind, cell: Cell) -> bool
+    ensures { result ≡ fitting.may_hold (memory_of blocks.now) kind cell }
+{
+    match cell {
+        Cell::Unset => true,
+        Cell::Number(_) => match kind {
+            CellKind::Number => true,
+            CellKind::Pointer => false,
+        },
+        Cell::Bytes { block, offset } => match kind {
+            CellKind::Number => false,
+            CellKind::Pointer => is_place(blocks, block, offset),
+        },
+    }
+}
+
+/// The place of the cell of a name in a block, where the cell may hold this.
+fn cell_to_write(blocks: &[Held<'_>], block: u32, name: &[u8], to: Cell) -> Option<usize>
+    ensures { IfSome result (λ at. MayWrite blocks.now block name.now to at) }
+{
+    match blocks.get(block as usize) {
+        Some(Held::Cells { declaration, .. }) => {
+            let infos = declaration.cells.as_slice();
+            let at = place_of(infos, name)?;
+            match infos.get(at) {
+                Some(info) if may_hold(blocks, info.kind, to) => Some(at),
+                _ => None,
+            }
+        }
+        _ => None,
+    }
+}
+
+/// Writes a cell, or answers that the block has none of that name which may hold this.
 pub fn write_cell(blocks: &mut [Held<'_>], block: u32, name: &[u8], to: Cell) -> bool
     ensures { MatchBool result (IsWritten (WritesCell block name.now to) blocks.old blocks.new) (blocks.new ≡ blocks.old) }
 {
+    let Some(at) = cell_to_write(blocks, block, name, to) else {
+        return false;
+    };
     let block = block as usize;
     if block >= blocks.len() {
         return false;
     }
     match &mut blocks[block] {
-        Held::Cells {
-            declaration,
-            cells,
-            ..
-        } => match place_of(declaration.cells.as_slice(), name) {
-            Some(at) => {
-                if at >= cells.len() {
-                    return false;
-                }
-                cells[at] = to;
-                true
+        Held::Cells { cells, .. } => {
+            if at >= cells.len() {
+                return false;
             }
-            None => false,
-        },
+            cells[at] = to;
+            true
+        }
         _ => false,
     }
 }

@@ -1,4 +1,4 @@
-//! An evaluator of the C subset: what it answers is what a program means.
+//! An evaluator of the C subset: what a call answers, and what it makes of the memory, is what the program means.
 #![tactic(auto)]
 
 mod blocks;
@@ -6,6 +6,7 @@ mod context;
 mod count;
 mod expressions;
 mod functions;
+mod machine;
 mod meter;
 mod reason;
 mod simple;
@@ -13,3 +14,6 @@ mod state;
 mod statements;
 mod stop;
 mod variables;
+
+pub use ecd_cast::value::Cell;
+pub use machine::{Arg, Block, BlockList, Halt, Machine};

@@ -7,7 +7,7 @@ use Rattle.ecd_cast.specs.Meaning.{block}
 use Rattle.ecd_ceval.specs.Following.{memory_in}
 use Rattle.ecd_ceval.specs.Places.{calls_in, place_in}
 use Rattle.ecd_ceval.proofs.Following.{follows_want}
-use Rattle.ecd_ceval.proofs.Running.{block_next, block_stop, block_late, called_returns, called_stops, waits_called, waits_scoped, declare_called, declare_wants, declare_stops, assign_called, assign_stops, choice_first, choice_second, choice_wants, loop_turns, turn_stops, turn_next, turn_return, turn_stop, turns_end, call_follows}
+use Rattle.ecd_ceval.proofs.Running.{block_next, block_stop, block_late, called_returns, called_stops, waits_called, waits_scoped, declare_called, declare_wants, declare_stops, assign_called, assign_stops, choice_first, choice_second, choice_wants, loop_turns, turn_stops, turn_flows, turn_next, turn_return, turn_stop, turns_end, call_follows}
 use Rattle.ecd_ceval.proofs.statements.+statements.Goals as goal
 
 pub assign-returns-in_err-returned-in-Call : goal.assign-returns-in_err-returned-in-Call
@@ -146,3 +146,7 @@ pub turn-returns-in_err-flow : goal.turn-returns-in_err-flow
 turn-returns-in_err-flow t c =
     let p = err_from_is_err_and c.from_residual-in_err-flow.result c.from_residual-in_err-flow.ensures.1 in
     rw (p.1, p.2) (turn_stops c.args.name.now c.args.count (block (calls_in c.args.context) c.args.body.now (place_in c.args.context c.args.first)) c.args.variables.now _ _ c.args.state.now c.tick.new.self c.block.new.state _ c.in_ok-tick.ensures (rw (c.in_ok-declare.ensures, c.in_ok-enter.ensures) at c.in_err-flow.ensures))
+
+pub turn-returns : goal.turn-returns
+turn-returns t c =
+    rw c.leave.ensures (turn_flows c.args.name.now c.args.count (block (calls_in c.args.context) c.args.body.now (place_in c.args.context c.args.first)) c.args.variables.now _ c.args.state.now c.tick.new.self c.block.new.state c.in_ok-flow.flow c.in_ok-tick.ensures (rw (c.in_ok-declare.ensures, c.in_ok-enter.ensures) at c.in_ok-flow.ensures))
