@@ -1,5 +1,5 @@
 -- What contracts see of a machine, and what its calls promise.
-use Rattle.std.specs.Prelude.{ℕ, ◌+◌, ◌≡◌, ◌≤◌, ◌<◌, min, List, [], ◌∷◌, map, take, drop, length, Option, Some, None, Result, Ok, Err, slice_get, slice_set, Bool}
+use Rattle.std.specs.Prelude.{ℕ, ◌+◌, ◌-◌, ◌≡◌, ◌≤◌, ◌<◌, min, List, [], ◌∷◌, map, take, drop, length, Option, Some, None, Result, Ok, Err, slice_get, slice_set, zero, suc, true}
 use Rattle.ecd_cast.specs.declared.tree.CItem.{CItem}
 use Rattle.ecd_cast.specs.declared.tree.CItem.TheVariants.{Struct as AStruct, Function as AFunction}
 use Rattle.ecd_cast.specs.declared.tree.StructDecl.{StructDecl}
@@ -8,13 +8,20 @@ use Rattle.ecd_cast.specs.declared.tree.Program.{Program}
 use Rattle.ecd_cast.specs.declared.value.Value.{Value}
 use Rattle.ecd_cast.specs.declared.value.Value.TheVariants.{Number as Num, Bytes as Ptr, Struct as Str}
 use Rattle.ecd_cast.specs.declared.value.Cell.{Cell}
-use Rattle.ecd_cast.specs.declared.value.Cell.TheVariants.{Unset, Bytes as HoldsPointer}
+use Rattle.ecd_cast.specs.declared.value.Cell.TheVariants.{Unset, Number as HoldsNumber, Bytes as HoldsPointer}
 use Rattle.ecd_cast.specs.Memory.{Name, Memory, Block, Bytes, Cells, Event, after, steps_of, first_steps}
 use Rattle.ecd_cast.specs.Meaning.{Run, Falls, Returns, Stuck, calls_of, called, events_of}
 use Rattle.ecd_cast.specs.Validity.{structs_of}
 use Rattle.ecd_cast.specs.Fitting.{BlockKind, Fixed, Output, CellsOf}
+use Rattle.ecd_ceval.specs.declared.blocks.Held.{Held}
+use Rattle.ecd_ceval.specs.Blocks.{block_of, kind_of, lasting_of, IsHeld, AreAllHeld}
+use Rattle.ecd_ceval.specs.declared.state.State.{State}
+use Rattle.ecd_ceval.specs.Following.{memory_in}
+use Rattle.ecd_ceval.specs.Writes.{kind_holds}
 use Rattle.ecd_ceval.specs.declared.machine.Block.{Block as Given}
 use Rattle.ecd_ceval.specs.declared.machine.Block.TheVariants.{Fixed as GivenFixed, Output as GivenOutput, Cells as GivenCells}
+use Rattle.ecd_ceval.specs.declared.meter.Meter.{Meter}
+use Rattle.ecd_ceval.specs.declared.meter.Meter.TheVariants.{Left, Taken}
 use Rattle.ecd_ceval.specs.declared.machine.Arg.{Arg}
 use Rattle.ecd_ceval.specs.declared.machine.Arg.TheVariants.{Number as NumberArg, Bytes as BytesArg, Struct as StructArg}
 use Rattle.ecd_ceval.specs.declared.machine.Halt.{Halt}
@@ -55,6 +62,12 @@ abbrev pub AreNumbered : List StructDecl → List Given → Type 0
 AreNumbered structs [] = Unit {0}
 AreNumbered structs (b ∷ bs) = IsNumbered structs b × AreNumbered structs bs
 
+-- a block is held as it was given
+pub record IsHeldAs (structs : List StructDecl) (given : Given) (held : Held) : Type 0 where
+  pub block : block_of held ≡ block_given structs given
+  pub kind : kind_of held ≡ kind_given given
+  pub holds : (m : Memory) → IsHeld structs m held
+
 -- ---- calls
 
 abbrev pub meaning_of : List CItem → ℕ → Option CItem → List Value → Memory → Run
@@ -65,6 +78,23 @@ meaning_of items number None vs m = Stuck 0 0 0 []
 -- What the function of an item number does. It calls the functions before it.
 abbrev pub meaning : List CItem → ℕ → List Value → Memory → Run
 meaning items number vs m = meaning_of items number (slice_get items number) vs m
+
+-- the meter of a call that begins
+abbrev pub started : Option ℕ → Meter
+started (Some limit) = Left limit
+started None = Taken 0
+
+-- the steps that a meter has counted, from the limit that it began with
+abbrev pub taken_by : Option ℕ → Meter → ℕ
+taken_by (Some limit) (Left left) = limit - left
+taken_by (Some limit) (Taken steps) = steps
+taken_by None (Left left) = 0
+taken_by None (Taken steps) = steps
+
+-- a limit that 64 bits hold
+abbrev pub IsSmall : Option ℕ → Type 0
+IsSmall (Some limit) = limit ≤ 18446744073709551615
+IsSmall None = Unit {0}
 
 -- no limit, or no more steps than it
 abbrev pub IsWithin : Option ℕ → ℕ → Type 0
@@ -90,6 +120,12 @@ Answers (Falls env es) limit (Err (halt.Stuck a b c)) old new = ⊥
 Answers run limit (Err (halt.Spent steps)) old new = (limit ≡ Some steps) × (steps < steps_of (events_of run)) × (new ≡ after (first_steps steps (events_of run)) old)
 Answers run limit (Err (halt.OutOfMemory steps)) old new = Wanted run limit steps old new
 
+-- a call of a function that runs so: its answer, and the state behind it
+pub record Runs (run : Run) (limit : Option ℕ) (result : Result ℕ Halt) (old new : State) : Type 0 where
+  pub answers : Answers run limit result (memory_in old) (memory_in new)
+  pub lasting : map lasting_of new.blocks.items ≡ map lasting_of old.blocks.items
+  pub kept : (structs : List StructDecl) → AreAllHeld structs old.blocks.items → AreAllHeld structs new.blocks.items
+
 -- how many bytes a block has
 abbrev pub bytes_in : Block → Option ℕ
 bytes_in (Bytes bytes) = Some (length bytes)
@@ -108,3 +144,56 @@ pub record Stays (old new : Seen) : Type 0 where
   pub kinds : new.kinds ≡ old.kinds
   pub fixed : (b : ℕ) → slice_get old.kinds b ≡ Some Fixed → slice_get new.memory b ≡ slice_get old.memory b
   pub lengths : map bytes_in new.memory ≡ map bytes_in old.memory
+
+-- ---- cells and bytes
+
+abbrev pub IsCells : Option Block → Type 0
+IsCells (Some (Cells cells)) = Unit {0}
+IsCells (Some (Bytes bytes)) = ⊥
+IsCells None = ⊥
+
+-- what the cells of a block hold, in the order of their struct
+abbrev pub cells_in : Option Block → List Cell
+cells_in (Some (Cells cells)) = map (λ c. c.1) cells
+cells_in (Some (Bytes bytes)) = []
+cells_in None = []
+
+abbrev pub info_in : Option StructDecl → ℕ → Option CellInfo
+info_in (Some s) cell = slice_get s.cells cell
+info_in None cell = None
+
+-- the block has a cell of this number, which may hold this
+abbrev pub MaySet : List StructDecl → Memory → Option BlockKind → ℕ → Cell → Type 0
+MaySet structs m (Some (CellsOf number)) cell to = kind_holds m (info_in (slice_get structs number) cell) to ≡ true
+MaySet structs m (Some Fixed) cell to = ⊥
+MaySet structs m (Some Output) cell to = ⊥
+MaySet structs m None cell to = ⊥
+
+abbrev pub with_cell_at : List (Name × Cell) → ℕ → Cell → List (Name × Cell)
+with_cell_at [] at to = []
+with_cell_at (c ∷ cs) zero to = (c.0, to) ∷ cs
+with_cell_at (c ∷ cs) (suc at) to = c ∷ with_cell_at cs at to
+
+abbrev pub set_in : Option Block → ℕ → Cell → Memory → ℕ → Memory
+set_in (Some (Cells cells)) cell to m block = slice_set m block (Cells (with_cell_at cells cell to))
+set_in (Some (Bytes bytes)) cell to m block = m
+set_in None cell to m block = m
+
+abbrev pub bytes_of : Option Block → List ℕ
+bytes_of (Some (Bytes bytes)) = bytes
+bytes_of (Some (Cells cells)) = []
+bytes_of None = []
+
+-- the cell points into a fixed block, with so many bytes left
+abbrev pub CanView : List BlockKind → Memory → Option Cell → ℕ → Type 0
+CanView kinds m (Some (HoldsPointer block offset)) n = (slice_get kinds block ≡ Some Fixed) × (offset + n ≤ length (bytes_of (slice_get m block)))
+CanView kinds m (Some (HoldsNumber k)) n = ⊥
+CanView kinds m (Some Unset) n = ⊥
+CanView kinds m None n = ⊥
+
+-- the bytes there
+abbrev pub viewed : Memory → Option Cell → ℕ → List ℕ
+viewed m (Some (HoldsPointer block offset)) n = take n (drop offset (bytes_of (slice_get m block)))
+viewed m (Some (HoldsNumber k)) n = []
+viewed m (Some Unset) n = []
+viewed m None n = []

@@ -1,5 +1,5 @@
 -- What is written, and where.
-use Rattle.std.specs.Prelude.{ℕ, zero, suc, ◌+◌, ◌%◌, Bool, true, false, ◌≡◌, List, [], ◌∷◌, map, length, Option, Some, None, Result, Ok, Err, slice_get, nat_lt, if◌then◌else◌, bytes_eq}
+use Rattle.std.specs.Prelude.{ℕ, zero, suc, ◌+◌, ◌%◌, ◌<◌, Bool, true, false, ◌≡◌, List, [], ◌∷◌, map, length, Option, Some, None, Result, Ok, Err, slice_get, nat_lt, if◌then◌else◌, bytes_eq}
 use Rattle.ecd_cast.specs.declared.tree.CellInfo.{CellInfo}
 use Rattle.ecd_cast.specs.declared.tree.StructDecl.{StructDecl}
 use Rattle.ecd_cast.specs.declared.value.Cell.{Cell}
@@ -58,3 +58,25 @@ MayWriteIn m None x to at = ⊥
 -- the cell of a name is at this place of a block, and may hold this
 pub record MayWrite (blocks : List Held) (block : ℕ) (x : Name) (to : Cell) (at : ℕ) : Type 0 where
   pub may : MayWriteIn (memory_of blocks) (slice_get blocks block) x to at
+
+-- ---- cells by their numbers
+
+abbrev pub HasCellIn : Option Held → ℕ → Type 0
+HasCellIn (Some (HeldCells number declaration cells)) cell = cell < length cells.items
+HasCellIn (Some (HeldFixed bytes)) cell = ⊥
+HasCellIn (Some (HeldOutput bytes)) cell = ⊥
+HasCellIn None cell = ⊥
+
+-- the block has a cell of this number
+pub record HasCell (blocks : List Held) (block cell : ℕ) : Type 0 where
+  pub has : HasCellIn (slice_get blocks block) cell
+
+abbrev pub CellHoldsIn : Memory → Option Held → ℕ → Cell → Type 0
+CellHoldsIn m (Some (HeldCells number declaration cells)) cell to = kind_holds m (slice_get declaration.now.cells cell) to ≡ true
+CellHoldsIn m (Some (HeldFixed bytes)) cell to = ⊥
+CellHoldsIn m (Some (HeldOutput bytes)) cell to = ⊥
+CellHoldsIn m None cell to = ⊥
+
+-- the cell of this number may hold this
+pub record CellHolds (blocks : List Held) (block cell : ℕ) (to : Cell) : Type 0 where
+  pub holds : CellHoldsIn (memory_of blocks) (slice_get blocks block) cell to

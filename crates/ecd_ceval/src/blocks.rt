@@ -1,14 +1,16 @@
 //! The blocks of a machine's memory, read and written.
 
-ghost use Rattle.std.specs.Prelude.{◌≡◌, ◌+◌, slice_get, nat_le, if◌then◌else◌, length, MatchOption, MatchBool, IfSome};
+ghost use Rattle.std.specs.Prelude.{◌≡◌, ◌+◌, List, slice_get, nat_le, if◌then◌else◌, map, length, MatchOption, MatchBool, IfSome};
+ghost use Rattle.ecd_cast.specs.declared.tree.StructDecl.{StructDecl as Declaration};
 ghost use Rattle.ecd_cast.specs.Expressions as meaning;
 ghost use Rattle.ecd_cast.specs.Fitting as fitting;
 ghost use Rattle.ecd_cast.specs.declared.value.Value.TheVariants.{Bytes as Ptr};
 ghost use Rattle.ecd_cast.specs.Expressions.{Gives, Fails};
 ghost use Rattle.ecd_ceval.specs.Outcomes.{outcome};
 ghost use Rattle.ecd_cast.specs.Memory.{WritesByte, WritesCell};
-ghost use Rattle.ecd_ceval.specs.Blocks.{memory_of, named};
-ghost use Rattle.ecd_ceval.specs.Writes.{IsNoCell, IsFirstCell, byte_outcome, stored, IsWritten, MayWrite};
+ghost use Rattle.ecd_ceval.specs.Blocks.{memory_of, kind_of, named, AreAllHeld};
+ghost use Rattle.ecd_ceval.specs.Writes.{IsNoCell, IsFirstCell, byte_outcome, stored, IsWritten, MayWrite, HasCell, CellHolds};
+ghost use Rattle.ecd_ceval.specs.Machines.{set_in};
 
 use crate::reason::{Outcome, Reason};
 use ecd_cast::tree::{CellInfo, CellKind, StructDecl};
@@ -251,5 +253,18 @@ pub fn write_cell(blocks: &mut [Held<'_>], block: u32, name: &[u8], to: Cell) ->
             true
         }
         _ => false,
+    }
+}
+
+/// Sets the cell of a number, where the block has one.
+pub fn set_cell(blocks: &mut Vec<Held<'_>>, block: u32, cell: u32, to: Cell)
+    requires { HasCell blocks.old.items block cell }
+    ensures memory { memory_of blocks.new.items ≡ set_in (slice_get (memory_of blocks.old.items) block) cell to (memory_of blocks.old.items) block }
+    ensures kinds { map kind_of blocks.new.items ≡ map kind_of blocks.old.items }
+    ensures kept { (structs : List Declaration) → CellHolds blocks.old.items block cell to → AreAllHeld structs blocks.old.items → AreAllHeld structs blocks.new.items }
+{
+    match &mut blocks[block as usize] {
+        Held::Cells { cells, .. } => cells[cell as usize] = to,
+        _ => unreachable!(),
     }
 }

@@ -2,9 +2,11 @@
 #![tactic(auto)]
 
 mod blocks;
+mod calls;
 mod context;
 mod count;
 mod expressions;
+mod fitting;
 mod functions;
 mod machine;
 mod meter;
