@@ -5,6 +5,7 @@ use Rattle.ecd_cast.specs.declared.tree.Program.{Program}
 use Rattle.ecd_cast.specs.Memory.{Name, Cell, Event, Step, Enters, Leaves, WritesByte, WritesCell, Memory, Block, Bytes, Cells, after, event, with_byte_in, with_cell_in, steps_of, first_steps, most_active}
 use Rattle.std.proofs.Common.{◌⊎◌, ⊎_elim, ◌<◌}
 use Rattle.ecd_cast.specs.Laws.{Spares, Steps, FirstFault}
+use Rattle.ecd_cast.proofs.Verdicts.{some_first}
 use Rattle.std.specs.Prelude.{nat_eq}
 use Rattle.std.proofs.lemmas.Bool.{eq-eqb}
 use Rattle.std.proofs.Common.{true}
@@ -94,4 +95,4 @@ one_first : (p : Program) (f g : Fault) → IsFirstFault p f → IsFirstFault p 
 one_first p f g h k = ⊎_elim (λ (e : g ≡ f). sym e) (λ (x : IsBefore f g). ⊎_elim (λ (e : f ≡ g). e) (λ (y : IsBefore g f). absurd (not_both f g x y)) (k.first f h.broken)) (h.first g k.broken)
 
 pub first_fault : FirstFault
-first_fault = record { none = no_fault; one = one_first }
+first_fault = record { some = some_first; none = no_fault; one = one_first }

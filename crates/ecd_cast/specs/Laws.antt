@@ -1,5 +1,5 @@
 -- Facts about the definitions, as statements.
-use Rattle.std.specs.Prelude.{ℕ, suc, ◌+◌, ◌*◌, ◌≡◌, ◌≢◌, ◌<◌, ◌≤◌, true, false, List, [], ◌∷◌, ◌++◌, slice_get}
+use Rattle.std.specs.Prelude.{ℕ, zero, suc, ◌+◌, ◌*◌, ◌≡◌, ◌≢◌, ◌<◌, ◌≤◌, true, false, List, [], ◌∷◌, ◌++◌, slice_get}
 use Rattle.ecd_cast.specs.declared.tree.Expr.{Expr}
 use Rattle.ecd_cast.specs.declared.tree.Stmt.{Stmt}
 use Rattle.ecd_cast.specs.declared.tree.Stmt.TheVariants.{If, For, Number as DeclNumber}
@@ -28,8 +28,9 @@ MeaningIsKept = (items more : List CItem) (g : Name) (vs : List Value) (m : Memo
 abbrev pub ValidityIsKept : Type 0
 ValidityIsKept = (before : List CItem) (i : CItem) (from more : List CItem) (at : ℕ) → item_faults before i from at ≡ [] → item_faults before i more at ≡ []
 
--- a valid program has no first fault, and every program at most one
+-- a valid program has no first fault, every other one has one, and no program two
 pub record FirstFault : Type 0 where
+  pub some : (p : Program) → (IsValid p → ⊥) → (f : Fault) × IsFirstFault p f
   pub none : (p : Program) (f : Fault) → IsValid p → IsFirstFault p f → ⊥
   pub one : (p : Program) (f g : Fault) → IsFirstFault p f → IsFirstFault p g → f ≡ g
 
@@ -38,6 +39,12 @@ abbrev pub Sequence : Type 0
 Sequence =
     (calls : Calls) (s : Stmt) (rest : List Stmt) (p : Place) (env : Scopes) (m : Memory) (next : Scopes) (e : End) (vs ws : List Event) (a b : ℕ) →
     Ends (does calls s p env m) (Behind next) vs a → Ends (block calls rest (shifted p (count_of s)) next (after vs m)) e ws b → Ends (block calls (s ∷ rest) p env m) e (vs ++ ws) (suc (a + b))
+
+-- a statement that returns: those behind it are not run
+abbrev pub SequenceReturns : Type 0
+SequenceReturns =
+    (calls : Calls) (s : Stmt) (rest : List Stmt) (p : Place) (env : Scopes) (m : Memory) (n : ℕ) (vs : List Event) (most : ℕ) →
+    Ends (does calls s p env m) (With n) vs most → Ends (block calls (s ∷ rest) p env m) (With n) vs (suc most)
 
 -- behind a block its variables are gone
 abbrev pub outside : End → End
@@ -71,6 +78,29 @@ Repetition =
     (calls : Calls) (x b : Name) (body : List Stmt) (p : Place) (m : Memory) (E : ℕ → Scopes) (n k : ℕ) → given (lookup (E 0) b) ≡ Gives (Num n) →
     ((i : ℕ) → i < n → (f : Frame) × Ends (block calls body (shifted p 1) (((x, Num i) ∷ []) ∷ E i) m) (Behind (f ∷ E (i + 1))) [] k) →
     Ends (does calls (For x b body) p (E 0) m) (Behind (E n)) [] (n * suc k)
+
+-- what so many turns write, beginning with the turn i
+abbrev pub written : (ℕ → List Event) → (i left : ℕ) → List Event
+written W i zero = []
+written W i (suc left) = W i ++ written W (i + 1) left
+
+-- the turns below n fall through: E are the scopes and M the memory before each turn, W what it writes, in at most k steps besides its own
+abbrev pub TurnsFall : Calls → Name → List Stmt → Place → (ℕ → Scopes) → (ℕ → Memory) → (ℕ → List Event) → (n k : ℕ) → Type 0
+TurnsFall calls x body p E M W n k =
+    (i : ℕ) → i < n → (M (i + 1) ≡ after (W i) (M i)) × ((f : Frame) × Ends (block calls body p (((x, Num i) ∷ []) ∷ E i) (M i)) (Behind (f ∷ E (i + 1))) (W i) k)
+
+-- a loop whose turns fall through writes what they write, in order
+abbrev pub LoopFalls : Type 0
+LoopFalls =
+    (calls : Calls) (x b : Name) (body : List Stmt) (p : Place) (E : ℕ → Scopes) (M : ℕ → Memory) (W : ℕ → List Event) (n k : ℕ) → given (lookup (E 0) b) ≡ Gives (Num n) →
+    TurnsFall calls x body (shifted p 1) E M W n k → Ends (does calls (For x b body) p (E 0) (M 0)) (Behind (E n)) (written W 0 n) (n * suc k)
+
+-- a loop that returns in the turn j
+abbrev pub LoopReturns : Type 0
+LoopReturns =
+    (calls : Calls) (x b : Name) (body : List Stmt) (p : Place) (E : ℕ → Scopes) (M : ℕ → Memory) (W : ℕ → List Event) (n k j : ℕ) → given (lookup (E 0) b) ≡ Gives (Num n) → j < n →
+    TurnsFall calls x body (shifted p 1) E M W j k → (r : ℕ) (V : List Event) → Ends (block calls body (shifted p 1) (((x, Num j) ∷ []) ∷ E j) (M j)) (With r) V k →
+    Ends (does calls (For x b body) p (E 0) (M 0)) (With r) (written W 0 j ++ V) (suc j * suc k)
 
 -- the events write to other blocks than this one
 abbrev pub Spares : ℕ → List Event → Type 0

@@ -5,7 +5,13 @@ pub mod Kinds
 pub mod Validity
 pub mod Lexemes
 pub mod Spelling
+pub mod Chains
+pub mod Lookup
 pub mod Built
+pub mod First
+pub mod Surroundings
+pub mod Names
+pub mod Causes
 pub mod Ends
 pub mod Kept
 pub mod Rules

@@ -1,5 +1,5 @@
 -- The rules C1 to C7, and where a program breaks them.
-use Rattle.std.specs.Prelude.{ℕ, ◌+◌, ◌≡◌, ◌<◌, ◌⊎◌, Bool, true, false, not, ◌&&◌, ◌||◌, if◌then◌else◌, List, [], ◌∷◌, ◌++◌, flat_map, map, Contains, Option, Some, None, bytes_eq, nat_eq, length, max}
+use Rattle.std.specs.Prelude.{ℕ, ◌+◌, ◌≡◌, ◌<◌, ◌⊎◌, Bool, true, false, not, ◌&&◌, if◌then◌else◌, List, [], ◌∷◌, ◌++◌, flat_map, map, Contains, Option, Some, None, bytes_eq, nat_eq, length, max}
 use Rattle.std.specs.List.{list_any}
 use Rattle.ecd_cast.specs.declared.tree.Expr.{Expr}
 use Rattle.ecd_cast.specs.declared.tree.Source.{Source}
@@ -259,6 +259,43 @@ longest_from chains most (AFunction f ∷ is) =
 abbrev pub call_depth_of : List CItem → ℕ
 call_depth_of items = longest_from (λ g. 0) 0 items
 
+-- ---- the variables of a chain of calls
+
+-- how many variables a statement declares, those inside counted
+abbrev mutual
+  pub declared_by : Stmt → ℕ
+  declared_by (DeclNumber x e) = 1
+  declared_by (DeclPointer x e) = 1
+  declared_by (Assign x e) = 0
+  declared_by (Store x i e) = 0
+  declared_by (SetCell x c e) = 0
+  declared_by (If' t s ys u ns) = declared_in ys + declared_in ns
+  declared_by (For' x b s body) = 1 + declared_in body
+  declared_by (Return e) = 0
+
+  pub declared_in : {n : _} → Row_of-Stmt n → ℕ
+  declared_in end_of-Stmt = 0
+  declared_in (more_of-Stmt s rest) = declared_by s + declared_in rest
+
+abbrev pub block_declares : List Stmt → ℕ
+block_declares [] = 0
+block_declares (s ∷ rest) = declared_by s + block_declares rest
+
+-- the variables and parameters of a function
+abbrev pub variables_of : Function → ℕ
+variables_of f = length f.params + block_declares f.body
+
+-- the most of any chain of calls, where each function of a chain counts by its weight
+abbrev pub heaviest_from : (Function → ℕ) → Chains → ℕ → List CItem → ℕ
+heaviest_from weight chains most [] = most
+heaviest_from weight chains most (AStructDecl s ∷ is) = heaviest_from weight chains most is
+heaviest_from weight chains most (AFunction f ∷ is) =
+    let here : ℕ = weight f + block_chain chains f.body in heaviest_from weight (with_chain f.name here chains) (max most here) is
+
+-- the most variables and parameters that the functions of one chain of calls have together
+abbrev pub spaces_of : List CItem → ℕ
+spaces_of items = heaviest_from variables_of (λ g. 0) 0 items
+
 -- ---- programs
 
 abbrev pub depth_fault : Program → List Fault
@@ -287,37 +324,3 @@ pub record IsFirstFault (p : Program) (f : Fault) : Type 0 where
 -- whether an item is valid behind these items
 pub record IsValidAfter (before : List CItem) (item : CItem) : Type 0 where
   pub sound : item_faults before item (item ∷ []) (length before) ≡ []
-
--- ---- items without calls
-
-abbrev pub source_calls : Source → Bool
-source_calls (FromValue e) = false
-source_calls (FromCall g args) = true
-
-abbrev mutual
-  pub stmt_calls : Stmt → Bool
-  stmt_calls (DeclNumber x e) = source_calls e
-  stmt_calls (DeclPointer x e) = false
-  stmt_calls (Assign x e) = source_calls e
-  stmt_calls (Store x i e) = false
-  stmt_calls (SetCell x c e) = false
-  stmt_calls (If' t s ys u ns) = row_calls ys || row_calls ns
-  stmt_calls (For' x b s body) = row_calls body
-  stmt_calls (Return e) = false
-
-  pub row_calls : {n : _} → Row_of-Stmt n → Bool
-  row_calls end_of-Stmt = false
-  row_calls (more_of-Stmt s rest) = stmt_calls s || row_calls rest
-
-abbrev pub block_calls : List Stmt → Bool
-block_calls [] = false
-block_calls (s ∷ rest) = stmt_calls s || block_calls rest
-
--- whether an item holds a call
-abbrev pub item_calls : CItem → Bool
-item_calls (AStructDecl s) = false
-item_calls (AFunction f) = block_calls f.body
-
-abbrev pub items_call : List CItem → Bool
-items_call [] = false
-items_call (i ∷ is) = item_calls i || items_call is

@@ -1,18 +1,25 @@
 //! Valid programs, made item by item.
 
-ghost use Rattle.std.specs.Prelude.{◌≡◌, [], ◌∷◌, ◌++◌, OnOk, OnErr, length, false};
-ghost use Rattle.ecd_cast.specs.Validity.{IsValid, IsValidAfter, call_depth_of, item_calls};
+ghost use Rattle.std.specs.Prelude.{◌≡◌, [], ◌∷◌, ◌++◌, OnOk, OnErr, MatchOption, ◌↔◌, IsTrue, length, ◌<◌, ◌^◌};
+ghost use Rattle.ecd_cast.specs.Validity.{IsValid, IsValidAfter, call_depth_of, spaces_of};
 ghost use Rattle.ecd_cast.specs.Spelling.{IsSpelledProgram, IsSpelledItem};
+ghost use Rattle.ecd_cast.specs.Kept.{IsNew};
+ghost use Rattle.ecd_cast.specs.Built.{IsFile};
+ghost use Rattle.ecd_cast.specs.Lookup.{IsFunctionAt, IsReaderAt, AreReaderParams, is_named};
+ghost use Rattle.ecd_cast.specs.declared.tree.CItem.TheVariants.{Function as AFunction};
 
-use crate::tree::{CItem, CItemList, Program};
+use crate::chains::{Reach, Reaches, function_reach};
+use crate::tree::{CItem, CItemList, Function, Param, ParamKind, Program};
 use ecd_list::OutOfMemory;
 use std::alloc::Global;
+use std::collections::BTreeMap;
 use std::marker::Model;
 
 /// A program that breaks none of C1 to C7, and that has a spelling.
 #[derive(Debug, Drop)]
 pub struct Valid {
     program: Program,
+    spaces: u32,
 }
 
 impl Model for Valid {
@@ -26,10 +33,18 @@ impl Model for Valid {
 
     ghost view = { λ v. v.program };
 
-    ghost invariant = { λ v. IsFile v.program };
+    ghost invariant = { λ v. IsFile v.program v.spaces };
 }
 
 impl Valid {
+    /// A program that is judged already.
+    pub(crate) fn of_judged(program: Program, spaces: u32) -> Valid
+        requires { IsFile program spaces }
+        ensures { result ≡ program }
+    {
+        Valid { program, spaces }
+    }
+
     /// The program.
     pub fn program(&self) -> &Program
         ensures same { result.now ≡ self.now }
@@ -45,6 +60,67 @@ impl Valid {
     {
         self.program.depth
     }
+
+    /// The most variables and parameters that the functions of one chain of calls have together.
+    pub fn spaces(&self) -> u32
+        ensures { result ≡ spaces_of self.now.items }
+    {
+        self.spaces
+    }
+
+    /// The item number of the function of this name. None exactly where there is no such function.
+    pub fn function(&self, name: &str) -> Option<u32>
+        ensures { MatchOption result (IsNew name.now self.now.items) (λ at. IsFunctionAt self.now.items name.now at) }
+    {
+        function_at(self.program.items.as_slice(), name.as_bytes())
+    }
+
+    /// Whether the item of this number is a function whose parameters are a read pointer, a number and a struct, in this order.
+    pub fn is_reader(&self, function: u32) -> bool
+        ensures { IsTrue result ↔ IsReaderAt self.now.items function }
+    {
+        match self.program.items.get(function as usize) {
+            Some(CItem::Function(function)) => has_reader_params(function.params.as_slice()),
+            Some(CItem::Struct(_)) | None => false,
+        }
+    }
+}
+
+/// The number of the first function of this name.
+fn function_at(items: &[CItem], name: &[u8]) -> Option<u32>
+    requires { length items.now < 2 ^ 32 }
+    ensures { MatchOption result (IsNew name.now items.now) (λ at. IsFunctionAt items.now name.now at) }
+{
+    let mut at = 0;
+    for item in items {
+        if is_function_named(item, name) {
+            return Some(at);
+        }
+        at += 1;
+    }
+    None
+}
+
+fn is_function_named(item: &CItem, name: &[u8]) -> bool
+    ensures { result ≡ is_named item.now name.now }
+{
+    match item {
+        CItem::Struct(_) => false,
+        CItem::Function(function) => function.name.as_slice() == name,
+    }
+}
+
+fn has_reader_params(params: &[Param]) -> bool
+    ensures { IsTrue result ↔ AreReaderParams params.now }
+{
+    match params {
+        [buffer, length, cells] => {
+            matches!(buffer.kind, ParamKind::ReadPointer)
+                && matches!(length.kind, ParamKind::Number)
+                && matches!(cells.kind, ParamKind::Struct(_))
+        }
+        _ => false,
+    }
 }
 
 /// The structs and functions of a program so far, valid at every moment.
@@ -52,6 +128,9 @@ impl Valid {
 pub struct Builder {
     items: CItemList,
     depth: u32,
+    spaces: u32,
+    reaches: Reaches,
+    alloc: Global,
 }
 
 impl Model for Builder {
@@ -67,7 +146,7 @@ impl Model for Builder {
 
     ghost view = { λ b. b.items };
 
-    ghost invariant = { λ b. IsBuilt b.items b.depth };
+    ghost invariant = { λ b. IsBuilt b.items b.depth b.spaces b.reaches };
 }
 
 impl Builder {
@@ -78,16 +157,22 @@ impl Builder {
         Builder {
             items: CItemList::new(alloc),
             depth: 0,
+            spaces: 0,
+            reaches: BTreeMap::new(alloc),
+            alloc,
         }
     }
 
     /// Puts an item behind those that are there. A refusal changes nothing.
     ///
-    /// The item breaks none of C1 to C6 behind them, has a spelling, and holds no call.
+    /// The item breaks none of C1 to C6 behind them, and has a spelling.
+    ///
+    /// # Errors
+    ///
+    /// `OutOfMemory` where memory is wanting, which statements inside each other in more than 1,000 levels count as, and 2^32 or more items, or variables in one chain of calls.
     pub fn push(&mut self, item: CItem) -> Result<(), OutOfMemory>
         requires valid { IsValidAfter self.old item }
         requires spelled { IsSpelledItem item }
-        requires no_call { item_calls item ≡ false }
         ensures ok { OnOk result (self.new ≡ self.old ++ item ∷ []) }
         ensures err { OnErr result (self.new ≡ self.old) }
     {
@@ -96,12 +181,26 @@ impl Builder {
                 self.items.push(CItem::Struct(declaration))?;
                 Ok(())
             }
-            CItem::Function(function) => {
-                self.items.push(CItem::Function(function))?;
-                self.depth = 1;
-                Ok(())
-            }
+            CItem::Function(function) => self.push_function(function),
         }
+    }
+
+    fn push_function(&mut self, function: Function) -> Result<(), OutOfMemory>
+        requires valid { IsValidAfter self.old (AFunction function) }
+        requires spelled { IsSpelledItem (AFunction function) }
+        ensures ok { OnOk result (self.new ≡ self.old ++ AFunction function ∷ []) }
+        ensures err { OnErr result (self.new ≡ self.old) }
+    {
+        let reach = function_reach(&self.reaches, &function)?;
+        let name = Vec::from_slice(self.alloc, function.name.as_slice())?;
+        self.items.push(CItem::Function(function))?;
+        if self.reaches.insert(name, reach).is_err() {
+            self.items.pop();
+            return Err(OutOfMemory);
+        }
+        self.depth = self.depth.max(reach.calls);
+        self.spaces = self.spaces.max(reach.variables);
+        Ok(())
     }
 
     /// The number of items so far.
@@ -118,9 +217,16 @@ impl Builder {
         ensures valid { IsValid result }
         ensures spelled { IsSpelledProgram result }
     {
-        let Builder { items, depth } = self;
+        let Builder {
+            items,
+            depth,
+            spaces,
+            reaches: _,
+            alloc: _,
+        } = self;
         Valid {
             program: Program { depth, items },
+            spaces,
         }
     }
 }

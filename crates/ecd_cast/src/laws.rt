@@ -1,6 +1,6 @@
 //! Facts about the definitions alone, each the contract of a function that does nothing.
 
-ghost use Rattle.ecd_cast.specs.Laws.{MeaningIsKept, ValidityIsKept, FirstFault, Sequence, Choice, Call, CallDeclares, Repetition, OtherBlocks, WritesMakeMemory, Steps};
+ghost use Rattle.ecd_cast.specs.Laws.{MeaningIsKept, ValidityIsKept, FirstFault, Sequence, SequenceReturns, LoopFalls, LoopReturns, Choice, Call, CallDeclares, Repetition, OtherBlocks, WritesMakeMemory, Steps};
 
 /// Items behind a function change nothing of what it does, and nothing of an item's validity.
 pub fn items_behind()
@@ -8,14 +8,15 @@ pub fn items_behind()
     ensures validity { ValidityIsKept }
 {}
 
-/// A program that breaks no rule has no first fault, and every program has at most one.
+/// A program that breaks no rule has no first fault, every other one has one, and no program has two.
 pub fn first_fault()
     ensures { FirstFault }
 {}
 
-/// Ends, writes and steps of a sequence whose first statement falls through, from those of its parts.
+/// Ends, writes and steps of a sequence whose first statement falls through, or returns, from those of its parts.
 pub fn sequence()
-    ensures { Sequence }
+    ensures falls { Sequence }
+    ensures returns { SequenceReturns }
 {}
 
 /// A choice ends, writes and steps as the block that it takes.
@@ -32,6 +33,12 @@ pub fn call()
 /// A loop whose turns fall through and write nothing falls through, in at most the steps of its turns.
 pub fn repetition()
     ensures { Repetition }
+{}
+
+/// Ends, writes and steps of a loop, from those of its turns: it falls through behind the last one, or returns in one of them.
+pub fn loops()
+    ensures falls { LoopFalls }
+    ensures returns { LoopReturns }
 {}
 
 /// The memory behind a run is what its writes make of it, and blocks that it does not write to stay.

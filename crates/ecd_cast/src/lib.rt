@@ -3,8 +3,20 @@
 
 pub mod build;
 pub mod builder;
+mod chains;
+mod directory;
+pub mod fault;
+mod first;
+mod judge_end;
+mod judge_expr;
+mod judge_item;
+mod judge_names;
+mod judge_source;
+mod judge_stmt;
+mod kind;
 pub mod laws;
 pub mod tree;
+pub mod validate;
 pub mod value;
 
 #[cfg(test)]
@@ -36,5 +48,29 @@ mod tests {
             matches!(&cell, Stmt::SetCell { cell, .. } if cell.as_slice() == b"v_p".as_slice())
         );
         Ok(())
+    }
+
+    /// `uint64_t name(const uint8_t *buf, uint64_t len, struct cells *out)`, or without its last parameter, with this body.
+    fn function(alloc: Global, text: &[u8], reads: bool, body: StmtList) -> Result<CItem, Fail> {
+        let mut params = ParamList::new(alloc);
+        params.push(Param {
+            name: name(alloc, b"buf")?,
+            kind: ParamKind::ReadPointer,
+        })?;
+        params.push(Param {
+            name: name(alloc, b"len")?,
+            kind: ParamKind::Number,
+        })?;
+        if reads {
+            params.push(Param {
+                name: name(alloc, b"out")?,
+                kind: ParamKind::Struct(name(alloc, b"cells")?),
+            })?;
+        }
+        Ok(CItem::Function(Function {
+            name: name(alloc, text)?,
+            params,
+            body,
+        }))
     }
 }

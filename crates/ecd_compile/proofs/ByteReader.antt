@@ -11,7 +11,7 @@ use Rattle.ecd_cast.specs.declared.tree.Stmt.TheBlock as stmts
 use Rattle.ecd_cast.specs.declared.value.Cell.TheVariants.{Number as HoldsNumber}
 use Rattle.ecd_cast.specs.Memory.{Step, Enters, Leaves, WritesCell, Bytes, Memory}
 use Rattle.ecd_cast.specs.Meaning.{Returns}
-use Rattle.ecd_cast.specs.Validity.{IsValidAfter, item_calls, call_depth_of}
+use Rattle.ecd_cast.specs.Validity.{IsValidAfter, call_depth_of}
 use Rattle.ecd_cast.specs.Spelling.{IsSpelledItem}
 use Rattle.ecd_compile.specs.Reader.{reader_items, reader, unit_struct}
 use Rattle.ecd_compile.specs.Reads.{Gives, reading, ReadsByte, HasInterface}
@@ -29,10 +29,6 @@ reader_valid n = record { sound = refl }
 pub reader_spelled : (n : ℕ) → n < 256 → IsSpelledItem (AFunction (reader n))
 unfolding exprs.shape-the_row-Expr-0 exprs.hidden-the_row-Expr-0 hidden stmts.shape-the_row-Stmt-0 stmts.hidden-the_row-Stmt-0
 reader_spelled n h = let fits : n < 2 ^ 64 = omega arith in search (rules, fits)
-
-pub reader_calls : (n : ℕ) → item_calls (AFunction (reader n)) ≡ false
-unfolding exprs.shape-the_row-Expr-0 exprs.hidden-the_row-Expr-0 hidden stmts.shape-the_row-Stmt-0 stmts.hidden-the_row-Stmt-0
-reader_calls n = refl
 
 depth_one : (n : ℕ) → call_depth_of (reader_items n) ≡ 1
 unfolding exprs.shape-the_row-Expr-0 exprs.hidden-the_row-Expr-0 hidden stmts.shape-the_row-Stmt-0 stmts.hidden-the_row-Stmt-0

@@ -1,12 +1,12 @@
-use Rattle.std.proofs.Common.{◌≡◌, [], ◌∷◌, ◌++◌, ◌∙◌, ap, sym, subst, List, false, arith}
+use Rattle.std.proofs.Common.{◌≡◌, [], ◌∷◌, ◌++◌, ◌∙◌, ap, sym, subst, List, arith}
 use Rattle.ecd_cast.specs.declared.tree.CItem.{CItem}
 use Rattle.ecd_cast.specs.declared.tree.CItem.TheVariants.{Struct as AStructDecl, Function as AFunction}
 use Rattle.ecd_cast.specs.declared.tree.Function.{Function}
 use Rattle.ecd_cast.specs.declared.tree.StructDecl.{StructDecl}
-use Rattle.ecd_cast.specs.Validity.{IsValidAfter, item_calls, call_depth_of}
+use Rattle.ecd_cast.specs.Validity.{IsValidAfter, call_depth_of}
 use Rattle.ecd_cast.specs.Spelling.{IsSpelledItem}
 use Rattle.ecd_compile.specs.Reader.{unit_struct, reader_items}
-use Rattle.ecd_compile.proofs.ByteReader.{reader_reads, reader_serves, reader_valid, reader_spelled, reader_calls}
+use Rattle.ecd_compile.proofs.ByteReader.{reader_reads, reader_serves, reader_valid, reader_spelled}
 use Rattle.ecd_compile.proofs.reader.reader.Goals as goal
 
 first : (empty items : List CItem) (s : StructDecl) → items ≡ empty ++ AStructDecl s ∷ [] → empty ≡ [] → s ≡ unit_struct → items ≡ AStructDecl unit_struct ∷ []
@@ -20,9 +20,6 @@ push-requires-2-clause-valid c =
 
 pub push-requires-2-clause-spelled : goal.push-requires-2-clause-spelled
 push-requires-2-clause-spelled c = subst (λ (f : Function). IsSpelledItem (AFunction f)) (sym c.in_ok-function.ensures) (reader_spelled c.args.number (omega arith))
-
-pub push-requires-2-clause-no_call : goal.push-requires-2-clause-no_call
-push-requires-2-clause-no_call c = subst (λ (f : Function). item_calls (AFunction f) ≡ false) (sym c.in_ok-function.ensures) (reader_calls c.args.number)
 
 pub returns : goal.returns
 returns c =

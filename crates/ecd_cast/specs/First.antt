@@ -1,0 +1,40 @@
+-- The first of the faults that are met, in any order.
+use Rattle.std.specs.Prelude.{ℕ, ◌≡◌, Bool, if◌then◌else◌, List, [], ◌∷◌, Option, Some, None, nat_eq, nat_lt}
+use Rattle.ecd_cast.specs.declared.first.Spot.{Spot}
+use Rattle.ecd_cast.specs.declared.first.Broken.{Broken}
+use Rattle.ecd_cast.specs.declared.first.First.{First}
+use Rattle.ecd_cast.specs.Meaning.{Place}
+use Rattle.ecd_cast.specs.Validity.{Fault, at_place}
+
+-- by item, then statement, then rule
+abbrev pub is_before : Fault → Fault → Bool
+is_before a b = if nat_eq a.item b.item then (if nat_eq a.statement b.statement then nat_lt a.rule b.rule else nat_lt a.statement b.statement) else nat_lt a.item b.item
+
+abbrev pub earlier : Option Fault → Fault → Option Fault
+earlier None f = Some f
+earlier (Some g) f = if is_before f g then Some f else Some g
+
+-- the first of one that may be there already and of these
+abbrev pub first_of : Option Fault → List Fault → Option Fault
+first_of o [] = o
+first_of o (f ∷ fs) = first_of (earlier o f) fs
+
+-- ---- what the program keeps, as the definitions have it
+
+abbrev pub place_as : Spot → Place
+place_as s = record { item = s.item; statement = s.statement }
+
+abbrev pub fault_as : Broken → Fault
+fault_as b = record { rule = b.rule; item = b.spot.item; statement = b.spot.statement }
+
+abbrev pub first_in : Option Broken → Option Fault
+first_in None = None
+first_in (Some b) = Some (fault_as b)
+
+-- these faults have been taken in
+pub record Sees (old new : First) (faults : List Fault) : Type 0 where
+  pub is : first_in new.broken ≡ first_of (first_in old.broken) faults
+
+-- the rules that are broken at a place have been taken in
+pub record Finds (old new : First) (p : Place) (rules : List ℕ) : Type 0 where
+  pub sees : Sees old new (at_place p rules)
