@@ -1,0 +1,10 @@
+pub mod Slots
+pub mod Values
+pub mod Answering
+pub mod Stores
+pub mod Keeping
+pub mod Running
+pub mod Calling
+pub mod Following
+pub mod Counting
+pub mod Writing

@@ -1,0 +1,11 @@
+pub mod Outcomes
+pub mod Blocks
+pub mod Writes
+pub mod Scopes
+pub mod Places
+pub mod Steps
+pub mod Following
+pub mod Functions
+pub mod Machines
+pub mod Targets
+pub mod Operators
