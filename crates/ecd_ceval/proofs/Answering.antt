@@ -38,7 +38,7 @@ use Rattle.ecd_ceval.specs.Blocks.{named, block_of, memory_of, kind_of, lasting_
 use Rattle.ecd_ceval.specs.Writes.{kind_holds, CellHolds, CellHoldsIn, HasCell, HasCellIn}
 use Rattle.ecd_ceval.specs.Steps.{Passes}
 use Rattle.ecd_ceval.specs.Following.{Follows, Whole, Part, Spends, Wants, IsCut, memory_in}
-use Rattle.ecd_ceval.specs.Machines.{unset, unset_of, kind_given, block_given, IsHeldAs, Stays, bytes_in, cells_in, set_in, with_cell_at, started, taken_by, IsWithin, Wanted, Answers, Runs, meaning, meaning_of, MaySet, info_in, IsSmall}
+use Rattle.ecd_ceval.specs.Machines.{unset, unset_of, kind_given, block_given, IsHeldAs, Stays, bytes_in, cells_in, set_in, with_cell_at, started, taken_by, IsWithin, Wanted, Answers, Runs, meaning, meaning_of, MaySet, info_in, AreNamed, AreNamedBy, IsSmall}
 use Rattle.ecd_ceval.proofs.Following.{Waits}
 use Rattle.ecd_ceval.proofs.Running.{waits_called}
 use Rattle.ecd_ceval.proofs.Keeping.{at_block, cells_set, kept_by}
@@ -393,3 +393,15 @@ may_set structs blocks block cell to h k =
           record { has = subst (λ (o : Option Held). HasCellIn o cell) (sym e) (omega arith) },
           record { holds = subst (λ (o : Option Held). CellHoldsIn (memory_of blocks) o cell to) (sym e) holds },
         )
+
+-- a block of cells, by its struct
+pub cells_named : (structs : List StructDecl) (blocks : List Held) (i number : ℕ) (d : Bor StructDecl) (cells : Vec Cell Global) → slice_get blocks i ≡ Some (HeldCells number d cells) → AreAllHeld structs blocks →
+    AreNamed structs (slice_get (map kind_of blocks) i) cells.items (slice_get (memory_of blocks) i)
+cells_named structs blocks i number d cells e h =
+    let x : Held = HeldCells number d cells in
+    let lt = slice_get_within blocks i x e in
+    let block : slice_get (memory_of blocks) i ≡ Some (Cells (named d.now.cells cells.items)) = slice_get-map block_of blocks i ∙ ap (option_map block_of) e in
+    let kind : slice_get (map kind_of blocks) i ≡ Some (CellsOf number) = slice_get-map kind_of blocks i ∙ ap (option_map kind_of) e in
+    let was = at_block structs (memory_of blocks) blocks i x x lt (get_or_from_slice_get blocks i x x e) h.all in
+    subst (λ (o : Option BlockKind). AreNamed structs o cells.items (slice_get (memory_of blocks) i)) (sym kind)
+    (subst (λ (o : Option StructDecl). AreNamedBy o cells.items (slice_get (memory_of blocks) i)) (sym was.0) block)

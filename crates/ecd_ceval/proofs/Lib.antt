@@ -1,5 +1,6 @@
 pub mod Slots
 pub mod Values
+pub mod Naming
 pub mod Answering
 pub mod Stores
 pub mod Keeping

@@ -7,5 +7,6 @@ pub mod Steps
 pub mod Following
 pub mod Functions
 pub mod Machines
+pub mod Laws
 pub mod Targets
 pub mod Operators

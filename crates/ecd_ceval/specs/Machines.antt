@@ -14,7 +14,7 @@ use Rattle.ecd_cast.specs.Meaning.{Run, Falls, Returns, Stuck, calls_of, called,
 use Rattle.ecd_cast.specs.Validity.{structs_of}
 use Rattle.ecd_cast.specs.Fitting.{BlockKind, Fixed, Output, CellsOf}
 use Rattle.ecd_ceval.specs.declared.blocks.Held.{Held}
-use Rattle.ecd_ceval.specs.Blocks.{block_of, kind_of, lasting_of, IsHeld, AreAllHeld}
+use Rattle.ecd_ceval.specs.Blocks.{named, block_of, kind_of, lasting_of, IsHeld, AreAllHeld}
 use Rattle.ecd_ceval.specs.declared.state.State.{State}
 use Rattle.ecd_ceval.specs.Following.{memory_in}
 use Rattle.ecd_ceval.specs.Writes.{kind_holds}
@@ -157,6 +157,17 @@ abbrev pub cells_in : Option Block → List Cell
 cells_in (Some (Cells cells)) = map (λ c. c.1) cells
 cells_in (Some (Bytes bytes)) = []
 cells_in None = []
+
+abbrev pub AreNamedBy : Option StructDecl → List Cell → Option Block → Type 0
+AreNamedBy (Some s) cells block = block ≡ Some (Cells (named s.cells cells))
+AreNamedBy None cells block = ⊥
+
+-- a block is these cells under the names of its struct's
+abbrev pub AreNamed : List StructDecl → Option BlockKind → List Cell → Option Block → Type 0
+AreNamed structs (Some (CellsOf number)) cells block = AreNamedBy (slice_get structs number) cells block
+AreNamed structs (Some Fixed) cells block = ⊥
+AreNamed structs (Some Output) cells block = ⊥
+AreNamed structs None cells block = ⊥
 
 abbrev pub info_in : Option StructDecl → ℕ → Option CellInfo
 info_in (Some s) cell = slice_get s.cells cell

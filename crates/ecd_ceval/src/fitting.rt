@@ -62,12 +62,7 @@ fn takes(items: &[CItem], blocks: &[Held<'_>], kind: &ParamKind, arg: Arg) -> bo
 }
 
 /// Whether these are as many arguments as parameters, each of its parameter's kind.
-pub fn take_all(
-    items: &[CItem],
-    blocks: &[Held<'_>],
-    mut params: &[Param],
-    mut args: &[Arg],
-) -> bool
+fn take_all(items: &[CItem], blocks: &[Held<'_>], mut params: &[Param], mut args: &[Arg]) -> bool
     ensures { result ≡ fitting.params_take (structs_of items.now) (map kind_of blocks.now) (memory_of blocks.now) params.entry.now (map value_of_arg args.entry.now) }
 {
     while let [param, others @ ..] = params {
@@ -81,4 +76,16 @@ pub fn take_all(
         args = more;
     }
     args.is_empty()
+}
+
+/// Whether the item of a number is a function that takes these arguments.
+pub fn item_takes(items: &[CItem], blocks: &[Held<'_>], number: u32, args: &[Arg]) -> bool
+    ensures { result ≡ fitting.item_takes (structs_of items.now) (map kind_of blocks.now) (memory_of blocks.now) (slice_get items.now number) (map value_of_arg args.now) }
+{
+    match items.get(number as usize) {
+        Some(CItem::Function(function)) => {
+            take_all(items, blocks, function.params.as_slice(), args)
+        }
+        _ => false,
+    }
 }

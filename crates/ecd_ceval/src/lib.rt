@@ -8,6 +8,7 @@ mod count;
 mod expressions;
 mod fitting;
 mod functions;
+pub mod laws;
 mod machine;
 mod meter;
 mod reason;

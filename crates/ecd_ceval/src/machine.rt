@@ -3,13 +3,13 @@
 ghost use Rattle.std.specs.Prelude.{◌≡◌, ◌↔◌, IsTrue, IfOk, Some, slice_get, map, length, replicate};
 ghost use Rattle.ecd_cast.specs.declared.value.Cell.TheVariants.{Unset};
 ghost use Rattle.ecd_cast.specs.Validity.{structs_of};
-ghost use Rattle.ecd_cast.specs.Fitting.{Fits, Output};
+ghost use Rattle.ecd_cast.specs.Fitting.{Fits, IsWellKinded, Output};
 ghost use Rattle.ecd_cast.specs.Memory.{Bytes};
-ghost use Rattle.ecd_ceval.specs.Machines.{IsHeldAs, AreNumbered, kind_given, block_given, value_of_arg, meaning, Answers, Stays, IsCells, cells_in, MaySet, set_in, CanView, viewed};
+ghost use Rattle.ecd_ceval.specs.Machines.{IsHeldAs, AreNumbered, kind_given, block_given, value_of_arg, meaning, Answers, Stays, IsCells, cells_in, AreNamed, MaySet, set_in, CanView, viewed};
 
 use crate::blocks::{Held, set_cell};
 use crate::calls::run;
-use crate::fitting::{struct_at, take_all};
+use crate::fitting::{item_takes, struct_at};
 use crate::meter::Meter;
 use crate::state::State;
 use ecd_cast::builder::Valid;
@@ -151,22 +151,19 @@ impl<'a> Machine<'a> {
 
     /// The program that it was prepared with.
     pub fn program(&self) -> &'a Valid
-        ensures { result.now ≡ self.now.program }
+        ensures same { result.now ≡ self.now.program }
+        ensures kinded { IsWellKinded self.now.program.items self.now.kinds self.now.memory }
     {
         self.program
     }
 
     /// Whether an item is a function that takes these arguments: as many as its parameters, each of its parameter's kind.
     pub fn fits(&self, function: u32, args: &[Arg]) -> bool
-        ensures { IsTrue result ↔ Fits self.now.program.items self.now.kinds self.now.memory function (map value_of_arg args.now) }
+        ensures fits { IsTrue result ↔ Fits self.now.program.items self.now.kinds self.now.memory function (map value_of_arg args.now) }
+        ensures kinded { IsWellKinded self.now.program.items self.now.kinds self.now.memory }
     {
         let items = self.program.program().items.as_slice();
-        match items.get(function as usize) {
-            Some(CItem::Function(function)) => {
-                take_all(items, &self.state.blocks, function.params.as_slice(), args)
-            }
-            _ => false,
-        }
+        item_takes(items, &self.state.blocks, function, args)
     }
 
     /// Calls a function, with a limit on its steps.
@@ -191,7 +188,9 @@ impl<'a> Machine<'a> {
     /// The block holds cells.
     pub fn cells(&self, block: u32) -> &[Cell]
         requires { IsCells (slice_get self.now.memory block) }
-        ensures { result.now ≡ cells_in (slice_get self.now.memory block) }
+        ensures cells { result.now ≡ cells_in (slice_get self.now.memory block) }
+        ensures named { AreNamed (structs_of self.now.program.items) (slice_get self.now.kinds block) result.now (slice_get self.now.memory block) }
+        ensures kinded { IsWellKinded self.now.program.items self.now.kinds self.now.memory }
     {
         match self.state.blocks.get(block as usize) {
             Some(Held::Cells { cells, .. }) => cells.as_slice(),
