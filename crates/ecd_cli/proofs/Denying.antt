@@ -1,12 +1,12 @@
 -- What is asked for over given contents is refused for one thing at most, and never where it is a text.
-use Rattle.std.proofs.Common.{◌≡◌, ℕ, ◌⊎◌, ⊎_elim, inl, inr, List, [], ◌∷◌, refl, ap, sym, ◌∙◌}
+use Rattle.std.proofs.Common.{◌≡◌, ℕ, ◌⊎◌, ⊎_elim, inl, inr, List, [], ◌∷◌, refl, ap, sym, ◌∙◌, subst}
 use Rattle.std.specs.Prelude.{codes}
 use Rattle.ecd_compile.specs.declared.refusal.Refusal.{Refusal}
 use Rattle.ecd_compile.specs.Schema.{IsTold, HasCause}
-use Rattle.ecd_compile.proofs.Causes.{one_cause, never_refused}
+use Rattle.ecd_compile.proofs.Causes.{one_cause, never_refused, thin_once}
 use Rattle.ecd_cli.specs.Asked.{Asked, SchemaAsked, check, compile, read, write, copy, run, sample}
-use Rattle.ecd_cli.specs.Outcomes.{Outcome, NotBuilt}
-use Rattle.ecd_cli.specs.Causes.{IsRefused, IsCompiledTo, IsAnyNumber, IsDenied, IsAccepted, IsTextOver, outcome_of_refusal}
+use Rattle.ecd_cli.specs.Outcomes.{Outcome, NoEncoding, NotBuilt}
+use Rattle.ecd_cli.specs.Causes.{IsRefused, IsCompiledTo, IsAnyNumber, IsNumber, BeginsWith, BeginWithItem, BeginWithNone, IsDenied, IsAccepted, IsTextOver, outcome_of_refusal}
 
 refused_once : (schema root : List ℕ) (o p : Outcome) → IsRefused schema root o → IsRefused schema root p → o ≡ p
 refused_once schema root o p a b =
@@ -19,6 +19,33 @@ refused_or_number schema root o a b = never_refused schema root b.1.tree b.0 a.r
 compiled_number : (schema root text : List ℕ) → IsCompiledTo schema root text → IsAnyNumber schema root
 compiled_number schema root text t = (t.compiled.number, record { tree = t.compiled.tree; parsed = t.compiled.parsed; thin = t.compiled.thin })
 
+-- the root holds one number
+one_number : (schema root : List ℕ) (m n : ℕ) → IsNumber schema root m → IsNumber schema root n → m ≡ n
+one_number schema root m n a b = thin_once schema root a.tree b.tree m n a.parsed b.parsed a.thin b.thin
+
+none_or_item : (schema root input : List ℕ) → BeginWithNone schema root input → BeginWithItem schema root input → ⊥
+none_or_item schema root input a b =
+    let same : b.0 ≡ a.0 = one_number schema root b.0 a.0 b.1 a.1 in
+    a.2 (subst (λ (n : ℕ). BeginsWith n input) same b.2)
+
+read_once : (schema root input : List ℕ) (o p : Outcome) → IsRefused schema root o ⊎ (BeginWithNone schema root input × (o ≡ NoEncoding)) → IsRefused schema root p ⊎ (BeginWithNone schema root input × (p ≡ NoEncoding)) → o ≡ p
+read_once schema root input o p a b =
+    ⊎_elim
+    (λ (x : IsRefused schema root o). ⊎_elim
+    (λ (y : IsRefused schema root p). refused_once schema root o p x y)
+    (λ (y : BeginWithNone schema root input × (p ≡ NoEncoding)). absurd (refused_or_number schema root o x (y.0.0, y.0.1))) b)
+    (λ (x : BeginWithNone schema root input × (o ≡ NoEncoding)). ⊎_elim
+    (λ (y : IsRefused schema root p). absurd (refused_or_number schema root p y (x.0.0, x.0.1)))
+    (λ (y : BeginWithNone schema root input × (p ≡ NoEncoding)). x.1 ∙ sym y.1) b)
+    a
+
+read_or_item : (schema root input : List ℕ) (o : Outcome) → IsRefused schema root o ⊎ (BeginWithNone schema root input × (o ≡ NoEncoding)) → BeginWithItem schema root input → ⊥
+read_or_item schema root input o a b =
+    ⊎_elim
+    (λ (x : IsRefused schema root o). refused_or_number schema root o x (b.0, b.1))
+    (λ (x : BeginWithNone schema root input × (o ≡ NoEncoding)). none_or_item schema root input x.0 b)
+    a
+
 pub denied_once : (asked : Asked) (contents : List (List ℕ)) (o p : Outcome) → IsDenied asked contents o → IsDenied asked contents p → o ≡ p
 denied_once (check s) [] o p a b = absurd a
 denied_once (check s) (x ∷ []) o p a b = refused_once x s.root o p a b
@@ -26,7 +53,10 @@ denied_once (check s) (x ∷ y ∷ more) o p a b = absurd a
 denied_once (compile s) [] o p a b = absurd a
 denied_once (compile s) (x ∷ []) o p a b = refused_once x s.root o p a b
 denied_once (compile s) (x ∷ y ∷ more) o p a b = absurd a
-denied_once (read s d) contents o p a b = a ∙ sym b
+denied_once (read s d) [] o p a b = absurd a
+denied_once (read s d) (x ∷ []) o p a b = absurd a
+denied_once (read s d) (x ∷ y ∷ []) o p a b = read_once x s.root y o p a b
+denied_once (read s d) (x ∷ y ∷ z ∷ more) o p a b = absurd a
 denied_once (write s v m) contents o p a b = a ∙ sym b
 denied_once (copy s d m) contents o p a b = a ∙ sym b
 denied_once (run c f d n) contents o p a b = a ∙ sym b
@@ -39,7 +69,10 @@ denied_or_accepted (check s) (x ∷ y ∷ more) o a b = a
 denied_or_accepted (compile s) [] o a b = a
 denied_or_accepted (compile s) (x ∷ []) o a b = refused_or_number x s.root o a b
 denied_or_accepted (compile s) (x ∷ y ∷ more) o a b = a
-denied_or_accepted (read s d) contents o a b = b
+denied_or_accepted (read s d) [] o a b = a
+denied_or_accepted (read s d) (x ∷ []) o a b = a
+denied_or_accepted (read s d) (x ∷ y ∷ []) o a b = read_or_item x s.root y o a b
+denied_or_accepted (read s d) (x ∷ y ∷ z ∷ more) o a b = a
 denied_or_accepted (write s v m) contents o a b = b
 denied_or_accepted (copy s d m) contents o a b = b
 denied_or_accepted (run c f d n) contents o a b = b
@@ -53,7 +86,10 @@ text_accepted (check s) (x ∷ y ∷ more) text b = b
 text_accepted (compile s) [] text b = b
 text_accepted (compile s) (x ∷ []) text b = compiled_number x s.root text b
 text_accepted (compile s) (x ∷ y ∷ more) text b = b
-text_accepted (read s d) contents text b = b
+text_accepted (read s d) [] text b = b
+text_accepted (read s d) (x ∷ []) text b = b
+text_accepted (read s d) (x ∷ y ∷ []) text b = b.0
+text_accepted (read s d) (x ∷ y ∷ z ∷ more) text b = b
 text_accepted (write s v m) contents text b = b
 text_accepted (copy s d m) contents text b = b
 text_accepted (run c f d n) contents text b = b

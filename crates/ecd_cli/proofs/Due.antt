@@ -22,8 +22,8 @@ one_due contents asked o p a b =
     (λ (x : IsDeniedFor (Some contents) asked o). ⊎_elim
     (λ (y : IsTooLargeFor (Some contents) asked p). absurd (large_or_read contents (files_of asked) y.name x.contents y.large x.are_read))
     (λ (y : IsDeniedFor (Some contents) asked p).
-      let same : x.contents ≡ y.contents = one_content contents (files_of asked) x.contents y.contents x.are_read y.are_read in
-      denied_once asked y.contents o p (subst (λ (c : List (List ℕ)). IsDenied asked c o) same x.denied) y.denied) b)
+    let same : x.contents ≡ y.contents = one_content contents (files_of asked) x.contents y.contents x.are_read y.are_read in
+    denied_once asked y.contents o p (subst (λ (c : List (List ℕ)). IsDenied asked c o) same x.denied) y.denied) b)
     a
 
 due_or_accepted : (contents : Contents) (asked : Asked) (o : Outcome) → IsDue (Some contents) asked o → IsAcceptedFor (Some contents) asked → ⊥
@@ -31,8 +31,8 @@ due_or_accepted contents asked o a t =
     ⊎_elim
     (λ (x : IsTooLargeFor (Some contents) asked o). large_or_read contents (files_of asked) x.name t.contents x.large t.are_read)
     (λ (x : IsDeniedFor (Some contents) asked o).
-      let same : x.contents ≡ t.contents = one_content contents (files_of asked) x.contents t.contents x.are_read t.are_read in
-      denied_or_accepted asked t.contents o (subst (λ (c : List (List ℕ)). IsDenied asked c o) same x.denied) t.accepted)
+    let same : x.contents ≡ t.contents = one_content contents (files_of asked) x.contents t.contents x.are_read t.are_read in
+    denied_or_accepted asked t.contents o (subst (λ (c : List (List ℕ)). IsDenied asked c o) same x.denied) t.accepted)
     a
 
 due_or_text : (contents : Contents) (asked : Asked) (o : Outcome) (text : List ℕ) → IsDue (Some contents) asked o → IsText (Some contents) asked text → ⊥

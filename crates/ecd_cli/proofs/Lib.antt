@@ -4,3 +4,4 @@ pub mod Reading
 pub mod Denying
 pub mod Due
 pub mod Texts
+pub mod Consuming

@@ -6,10 +6,10 @@ use Rattle.ecd_outside.specs.Causes.{Rose}
 use Rattle.ecd_compile.specs.declared.refusal.Refusal.{Refusal}
 use Rattle.ecd_compile.specs.declared.refusal.Refusal.TheVariants as refusals
 use Rattle.ecd_compile.specs.Schema.{IsTold}
-use Rattle.ecd_cli.specs.Asked.{Asked, SchemaAsked, check, compile}
+use Rattle.ecd_cli.specs.Asked.{Asked, SchemaAsked, check, compile, read}
 use Rattle.ecd_cli.specs.Outcomes.{Outcome, Done, NoEncoding, Broken, Usage, ReadFault, WriteFault, TooLarge, OutOfMemory, NotBuilt}
 use Rattle.ecd_cli.specs.Files.{Wanted, files_of, schema_wanted, IsRead, AreRead, IsTooLarge, IsOneMissing}
-use Rattle.ecd_cli.specs.Causes.{IsRefused, IsRefusedOrWants, IsUnread, IsDenied, IsDue, IsDecided, MayFailToRead, HasNoText, outcome_of_refusal}
+use Rattle.ecd_cli.specs.Causes.{IsRefused, IsRefusedOrWants, IsUnread, BeginWithNone, IsDenied, IsDue, IsDecided, MayFailToRead, HasNoText, outcome_of_refusal}
 
 -- a refusal that is due is no end of another kind
 decided_only : (told : Told) (asked : Asked) (before now : ℕ) (o : Outcome) → IsDecided o → IsDue told asked o → HasNoText told asked before now o
@@ -48,9 +48,9 @@ unread_has_none told asked file before now o missing large unread =
     (λ (x : o ≡ OutOfMemory). wants_only told asked before now o x)
     (λ (x : ((o ≡ ReadFault) × MayFail told file.name before now) ⊎ ((o ≡ TooLarge file.name) × IsLonger told file.name file.limit)). ⊎_elim
     (λ (y : (o ≡ ReadFault) × MayFail told file.name before now). fault_only told asked before now o y.0
-      (⊎_elim (λ (z : Rose before now). inl z) (λ (z : IsMissing told file.name). inr (missing z)) y.1))
+    (⊎_elim (λ (z : Rose before now). inl z) (λ (z : IsMissing told file.name). inr (missing z)) y.1))
     (λ (y : (o ≡ TooLarge file.name) × IsLonger told file.name file.limit).
-      decided_only told asked before now o (subst IsDecided (sym y.0) tt) (inl record { name = file.name; is = y.0; large = large file.name (refl, y.1) })) x)
+    decided_only told asked before now o (subst IsDecided (sym y.0) tt) (inl record { name = file.name; is = y.0; large = large file.name (refl, y.1) })) x)
     unread
 
 refusal_decided : (schema : List ℕ) (r : Refusal) → IsTold r → IsDecided (outcome_of_refusal schema r)
@@ -79,3 +79,34 @@ unbuilt_has_none told asked before now are denied = decided_only told asked befo
 pub ok_text : {E : Type 0} (r : Result (List ℕ) E) (bytes : List ℕ) (P : List ℕ → Type 0) → IfOk r (λ t. t ≡ bytes) → P bytes → IfOk r P
 ok_text (Ok t) bytes P e p = subst P (sym e) p
 ok_text (Err e) bytes P is p = tt
+
+-- the count of faults was lower before another file was read
+later_rose : (before between now : ℕ) → before ≤ between → Rose between now → Rose before now
+later_rose before between now le rose = omega (arith, le, rose)
+
+pub later_unread : (told : Told) (file : Wanted) (before between now : ℕ) (o : Outcome) → before ≤ between → IsUnread told file between now o → IsUnread told file before now o
+later_unread told file before between now o le unread =
+    ⊎_elim
+    (λ (x : o ≡ OutOfMemory). inl x)
+    (λ (x : ((o ≡ ReadFault) × MayFail told file.name between now) ⊎ ((o ≡ TooLarge file.name) × IsLonger told file.name file.limit)). ⊎_elim
+    (λ (y : (o ≡ ReadFault) × MayFail told file.name between now).
+    inr (inl (y.0, ⊎_elim (λ (z : Rose between now). inl (later_rose before between now le z)) (λ (z : IsMissing told file.name). inr z) y.1)))
+    (λ (y : (o ≡ TooLarge file.name) × IsLonger told file.name file.limit). inr (inr y)) x)
+    unread
+
+-- the second file of two is not read
+pub second_has_none : (told : Told) (asked : Asked) (first second : Wanted) (bytes : List ℕ) (before between now : ℕ) (o : Outcome) → files_of asked ≡ first ∷ second ∷ []
+    → IsRead told first bytes → before ≤ between → IsUnread told second between now o → HasNoText told asked before now o
+second_has_none told asked first second bytes before between now o files is_read le unread =
+    unread_has_none told asked second before now o
+    (λ missing. subst (λ (fs : List Wanted). IsOneMissing told fs) (sym files) (inr (bytes, is_read, inl missing)))
+    (λ name large. subst (λ (fs : List Wanted). IsTooLarge told fs name) (sym files) (inr (bytes, is_read, inl large)))
+    (later_unread told second before between now o le unread)
+
+-- the data begin with no item
+pub none_has_none : (told : Told) (s : SchemaAsked) (d schema input : List ℕ) (before now : ℕ) → AreRead told (files_of (read s d)) (schema ∷ input ∷ []) → BeginWithNone schema s.root input
+    → HasNoText told (read s d) before now NoEncoding
+none_has_none told s d schema input before now are none = decided_only told (read s d) before now NoEncoding tt (inr record { contents = schema ∷ input ∷ []; are_read = are; denied = inr (none, refl) })
+
+pub wants_has_none : (told : Told) (asked : Asked) (before now : ℕ) → HasNoText told asked before now OutOfMemory
+wants_has_none told asked before now = wants_only told asked before now OutOfMemory refl

@@ -64,6 +64,10 @@ BeginWithItem schema root input = (number : ℕ) × IsNumber schema root number 
 abbrev pub BeginWithNone : List ℕ → List ℕ → List ℕ → Type 0
 BeginWithNone schema root input = (number : ℕ) × IsNumber schema root number × (BeginsWith number input → ⊥)
 
+-- a reader of the number takes so many of the bytes: the one, or none
+abbrev pub Takes : ℕ → List ℕ → ℕ → Type 0
+Takes number input taken = ((taken ≡ 1) × BeginsWith number input) ⊎ ((taken ≡ 0) × (BeginsWith number input → ⊥))
+
 -- ---- commands over the contents of their files
 
 abbrev pub OfOne : List (List ℕ) → (List ℕ → Type 0) → Type 0
@@ -78,7 +82,7 @@ OfTwo _ P = ⊥
 abbrev pub IsDenied : Asked → List (List ℕ) → Outcome → Type 0
 IsDenied (check s) contents outcome = OfOne contents (λ schema. IsRefused schema s.root outcome)
 IsDenied (compile s) contents outcome = OfOne contents (λ schema. IsRefused schema s.root outcome)
-IsDenied (read s d) contents outcome = outcome ≡ NotBuilt
+IsDenied (read s d) contents outcome = OfTwo contents (λ schema input. IsRefused schema s.root outcome ⊎ (BeginWithNone schema s.root input × (outcome ≡ NoEncoding)))
 IsDenied (write s v cap) contents outcome = outcome ≡ NotBuilt
 IsDenied (copy s d cap) contents outcome = outcome ≡ NotBuilt
 IsDenied (run c f d steps) contents outcome = outcome ≡ NotBuilt
@@ -88,7 +92,7 @@ IsDenied (sample n) contents outcome = outcome ≡ NotBuilt
 abbrev pub IsAccepted : Asked → List (List ℕ) → Type 0
 IsAccepted (check s) contents = OfOne contents (λ schema. IsAnyNumber schema s.root)
 IsAccepted (compile s) contents = OfOne contents (λ schema. IsAnyNumber schema s.root)
-IsAccepted (read s d) contents = ⊥
+IsAccepted (read s d) contents = OfTwo contents (λ schema input. BeginWithItem schema s.root input)
 IsAccepted (write s v cap) contents = ⊥
 IsAccepted (copy s d cap) contents = ⊥
 IsAccepted (run c f d steps) contents = ⊥
@@ -98,7 +102,7 @@ IsAccepted (sample n) contents = ⊥
 abbrev pub IsTextOver : Asked → List (List ℕ) → List ℕ → Type 0
 IsTextOver (check s) contents text = OfOne contents (λ schema. IsAnyNumber schema s.root × (text ≡ codes "ok\n"))
 IsTextOver (compile s) contents text = OfOne contents (λ schema. IsCompiledTo schema s.root text)
-IsTextOver (read s d) contents text = ⊥
+IsTextOver (read s d) contents text = OfTwo contents (λ schema input. BeginWithItem schema s.root input × (text ≡ codes "1 _\n"))
 IsTextOver (write s v cap) contents text = ⊥
 IsTextOver (copy s d cap) contents text = ⊥
 IsTextOver (run c f d steps) contents text = ⊥

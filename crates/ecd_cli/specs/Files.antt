@@ -21,7 +21,7 @@ data_wanted name = wanted name 16777216
 abbrev pub files_of : Asked → List Wanted
 files_of (check s) = schema_wanted s ∷ []
 files_of (compile s) = schema_wanted s ∷ []
-files_of (read s d) = []
+files_of (read s d) = schema_wanted s ∷ data_wanted d ∷ []
 files_of (write s v cap) = []
 files_of (copy s d cap) = []
 files_of (run c f d steps) = []

@@ -38,9 +38,15 @@ pub enum Answer<'a> {
     /// Want of memory.
     OutOfMemory,
     /// The C file is no spelling of a program: the first place of fault.
-    NoSpelling { place: u32 },
+    NoSpelling {
+        place: u32,
+    },
     /// The C file breaks a rule of the subset, C1 to C7, in a statement of an item.
-    BreaksC { rule: u8, item: u32, statement: u32 },
+    BreaksC {
+        rule: u8,
+        item: u32,
+        statement: u32,
+    },
     /// The run is stuck at a statement of an item.
     Stuck {
         reason: u8,
@@ -48,9 +54,13 @@ pub enum Answer<'a> {
         statement: u32,
     },
     /// The run takes more steps than it may.
-    Spent { steps: u64 },
+    Spent {
+        steps: u64,
+    },
     /// The C file has no function of that name with a reader's parameters.
-    NoFunction { name: &'a str },
+    NoFunction {
+        name: &'a str,
+    },
     /// What is asked for is not built.
     NotBuilt,
 }
@@ -110,27 +120,25 @@ pub fn line_for(alloc: Global, answer: &Answer<'_>) -> Result<Line, OutOfMemory>
         Answer::WriteFault => Ok(Line::Fixed("write fault\n")),
         Answer::TooLarge { name } => Ok(Line::Made(format!(in alloc; "too large: {name}\n")?)),
         Answer::OutOfMemory => Ok(Line::Fixed(OUT_OF_MEMORY)),
-        Answer::NoSpelling { place } => Ok(Line::Made(
-            format!(in alloc; "c file rule C0 byte {place}\n")?,
-        )),
+        Answer::NoSpelling { place } => Ok(Line::Made(format!(in alloc;
+            "c file rule C0 byte {place}\n"
+        )?)),
         Answer::BreaksC {
             rule,
             item,
             statement,
-        } => Ok(Line::Made(
-            format!(in alloc; "c file rule C{rule} item {item} statement {statement}\n")?,
-        )),
+        } => Ok(Line::Made(format!(in alloc;
+            "c file rule C{rule} item {item} statement {statement}\n"
+        )?)),
         Answer::Stuck {
             reason,
             item,
             statement,
-        } => Ok(Line::Made(
-            format!(in alloc; "stuck {reason} item {item} statement {statement}\n")?,
-        )),
+        } => Ok(Line::Made(format!(in alloc;
+            "stuck {reason} item {item} statement {statement}\n"
+        )?)),
         Answer::Spent { steps } => Ok(Line::Made(format!(in alloc; "spent {steps}\n")?)),
-        Answer::NoFunction { name } => Ok(Line::Made(
-            format!(in alloc; "no function {name}\n")?,
-        )),
+        Answer::NoFunction { name } => Ok(Line::Made(format!(in alloc; "no function {name}\n")?)),
         Answer::NotBuilt => Ok(Line::Fixed("not built\n")),
     }
 }

@@ -1,7 +1,7 @@
 //! The texts that the commands ask for.
 
 ghost use Rattle.std.specs.Prelude.{◌≡◌, ◌≢◌, ◌≤◌, [], true, IfOk, IfErr};
-ghost use Rattle.ecd_cli.specs.Asked.{IsInRange, check, compile};
+ghost use Rattle.ecd_cli.specs.Asked.{IsInRange, check, compile, read};
 ghost use Rattle.ecd_cli.specs.Commands.{asked_by, schema_asked};
 ghost use Rattle.ecd_cli.specs.Files.{files_of, TakesFew};
 ghost use Rattle.ecd_cli.specs.Causes.{IsText, HasNoText};
@@ -9,7 +9,8 @@ ghost use Rattle.ecd_cli.specs.Outcomes.{OutOfMemory as WantsMemory};
 ghost use Rattle.ecd_cli.specs.Answers.{outcome_of};
 
 use crate::answer::Answer;
-use crate::contents::contents_of;
+use crate::contents::{MOST_DATA, contents_of};
+use crate::reader::consumed;
 use crate::schemas::compile_schema;
 use crate::words::{Command, SchemaWords};
 use ecd_lex::MOST_BYTES;
@@ -70,6 +71,39 @@ fn compile_text<'a, F: Files>(
     Ok(compiled.text)
 }
 
+/// How many bytes the reader of the schema takes from the data, and the value. So far that has no text but `_`.
+fn read_text<'a, F: Files>(
+    alloc: Global,
+    words: &SchemaWords<'a>,
+    name: &'a str,
+    files: &mut F,
+) -> Result<ByteList, Answer<'a>>
+    requires { words.now.depth ≤ 32 }
+    ensures text { IfOk result (λ text. IsText (F.told files.old) (read (schema_asked words.now) name.now) text) }
+    ensures none { IfErr result (λ answer. HasNoText (F.told files.old) (read (schema_asked words.now) name.now) (F.faults files.old) (F.faults files.new) (outcome_of answer)) }
+    ensures few { F.begun files.new ≡ true → TakesFew (F.told files.old) (files_of (read (schema_asked words.now) name.now)) (F.left files.new) }
+    ensures told { F.told files.new ≡ F.told files.old }
+    ensures later { F.faults files.old ≤ F.faults files.new }
+{
+    let schema = contents_of(alloc, files, words.file, MOST_BYTES)?;
+    let input = match contents_of(alloc, files, name, MOST_DATA) {
+        Ok(input) => input,
+        Err(answer) => return Err(answer),
+    };
+    let compiled = match compile_schema(alloc, schema.as_slice(), words) {
+        Ok(compiled) => compiled,
+        Err(answer) => return Err(answer),
+    };
+    let taken = match consumed(alloc, &compiled.program, input.as_slice()) {
+        Ok(taken) => taken,
+        Err(OutOfMemory) => return Err(Answer::OutOfMemory),
+    };
+    if taken == 0 {
+        return Err(Answer::NoEncoding);
+    }
+    text(alloc, b"1 _\n")
+}
+
 /// The text that the words ask for.
 pub fn text_of<'a, F: Files>(
     alloc: Global,
@@ -87,8 +121,8 @@ pub fn text_of<'a, F: Files>(
     match *command {
         Command::Check(words) => check_text(alloc, &words, files),
         Command::Compile(words) => compile_text(alloc, &words, files),
-        Command::Read { .. }
-        | Command::Write { .. }
+        Command::Read { schema, data } => read_text(alloc, &schema, data, files),
+        Command::Write { .. }
         | Command::Copy { .. }
         | Command::Run { .. }
         | Command::Sample { .. } => Err(Answer::NotBuilt),

@@ -5,6 +5,7 @@ pub mod answer;
 pub mod commands;
 pub mod contents;
 pub mod laws;
+pub mod reader;
 pub mod run;
 pub mod schemas;
 pub mod status;

@@ -14,7 +14,8 @@ use Rattle.ecd_compile.specs.declared.refusal.Refusal.{Refusal}
 use Rattle.ecd_compile.specs.declared.refusal.Refusal.TheVariants.{NotUtf8, Lex, Parse, NotBuilt, OutOfMemory}
 use Rattle.ecd_compile.specs.Schema.{IsSchema, IsSyntaxFault, IsNoSchema, IsNoText, BreaksLexemes, IsNotThin, HasCause, IsTold, HasOneCause}
 use Rattle.ecd_compile.specs.Thin.{IsThin}
-use Rattle.ecd_compile.specs.Reads.{IsCompiled, IsNeverRefused}
+use Rattle.ecd_compile.specs.Reads.{IsNeverRefused}
+use Rattle.ecd_compile.proofs.LoneRule.{one_thin}
 
 -- the longest front that is UTF-8 is one
 not_longer : (text : List ℕ) (p q : ℕ) → IsValidUpTo text p → IsValidUpTo text q → p < q → ⊥
@@ -86,3 +87,9 @@ never_refused schema root tree number (Lex q s) parsed thin x a = no_list_and_fa
 never_refused schema root tree number (Parse q s) parsed thin x a = no_schema_or_schema schema tree q s a parsed
 never_refused schema root tree number NotBuilt parsed thin x a = a.other number (subst (λ (t : Tree). IsThin t root number) (same_tree schema tree a.tree parsed a.schema) thin)
 never_refused schema root tree number OutOfMemory parsed thin x a = x
+
+-- a schema stands for one number
+pub thin_once : (schema root : List ℕ) (t u : Tree) (m n : ℕ) → IsSchema schema t → IsSchema schema u → IsThin t root m → IsThin u root n → m ≡ n
+thin_once schema root t u m n a b x y =
+    let same : u ≡ t = same_tree schema u t b a in
+    one_thin t root m n x (subst (λ (v : Tree). IsThin v root n) same y)

@@ -1,4 +1,4 @@
 pub mod ByteReader
-pub mod Causes
 pub mod LoneRule
+pub mod Causes
 pub mod Exact

@@ -1,6 +1,13 @@
 -- A tree of one rule.
 use Rattle.std.proofs.Common.{◌≡◌, ℕ, ◌<◌, ◌≤◌, List, [], ◌∷◌, length, get_or, refl, ap, sym, ◌∙◌, subst, arith}
-use Rattle.std.specs.Prelude.{Option, Some, None}
+use Rattle.std.specs.Prelude.{Option, Some, None, pos}
+use Rattle.ecd_syntax.specs.declared.tree.Entry.{Entry, out-Entry}
+use Rattle.ecd_syntax.specs.declared.tree.Alts.{out-Alts}
+use Rattle.ecd_syntax.specs.declared.tree.Type1.{Type1, out-Type1}
+use Rattle.ecd_syntax.specs.declared.tree.Type2.{out-Type2}
+use Rattle.ecd_syntax.specs.declared.tree.Form.{out-Form}
+use Rattle.ecd_syntax.specs.declared.tree.Form.TheOpen as forms
+use Rattle.ecd_syntax.specs.declared.tree.Literal.TheVariants.{Int}
 use Rattle.ecd_syntax.specs.declared.tree.Tree.{Tree}
 use Rattle.ecd_syntax.specs.declared.tree.Rule.{Rule}
 use Rattle.ecd_compile.specs.Thin.{IsLoneNumber, Defines, IsThin, IsFound}
@@ -27,3 +34,21 @@ by_found tree root rule None e d f = λ n t.
 
 pub lone_rule : (tree : Tree) (root : List ℕ) (rules : List Rule) (rule : Rule) (o : Option ℕ) → rules ≡ tree.rules → 1 ≤ length rules → length rules < 2 → rule ≡ get_or rules 0 rule → Defines rule root → IsFound (IsLoneNumber rule.body) o → IsFound (IsThin tree root) o
 lone_rule tree root rules rule o e h k i d f = by_found tree root rule o (sym e ∙ list_of_one rules rule h k i) d f
+
+-- an entry is one number
+one_number : (entry : Entry) (m n : ℕ) → IsLoneNumber entry m → IsLoneNumber entry n → m ≡ n
+one_number entry m n a b =
+    let choices : a.choice ∷ [] ≡ b.choice ∷ [] = sym a.alone ∙ b.alone in
+    let choice : a.choice ≡ b.choice = cc in
+    let form = subst (λ (c : Type1). out-Form (out-Type2 (out-Type1 c).left).form ≡ forms.Form::Lit a.literal) choice a.is in
+    let literals : forms.Form::Lit a.literal ≡ forms.Form::Lit b.literal = sym form ∙ b.is in
+    let literal : a.literal ≡ b.literal = cc in
+    let integers : Int (Some (pos m)) ≡ Int (Some (pos n)) = sym a.small.is ∙ (literal ∙ b.small.is) in
+    cc
+
+-- a tree is one number of the root
+pub one_thin : (tree : Tree) (root : List ℕ) (m n : ℕ) → IsThin tree root m → IsThin tree root n → m ≡ n
+one_thin tree root m n a b =
+    let both : a.rule ∷ [] ≡ b.rule ∷ [] = sym a.alone ∙ b.alone in
+    let same : a.rule ≡ b.rule = head_same a.rule b.rule both in
+    one_number b.rule.body m n (subst (λ (r : Rule). IsLoneNumber r.body m) same a.number) b.number
