@@ -9,10 +9,11 @@ use std::test::Fail;
 /// Room for every text and line of these tests.
 const AMPLE: usize = 65_536;
 
-/// The file `s` of a call, the calls that are to fail, and the room of the two sinks.
+/// The files `s` and `d` of a call, the calls that are to fail, and the room of the two sinks.
 #[derive(Clone, Copy)]
 struct Outside<'a> {
     contents: Option<&'a [u8]>,
+    input: Option<&'a [u8]>,
     read_fails: Option<u64>,
     write_fails: Option<u64>,
     out_room: usize,
@@ -28,6 +29,7 @@ fn with_file(contents: &str) -> Outside<'_> {
 fn with_bytes(contents: &[u8]) -> Outside<'_> {
     Outside {
         contents: Some(contents),
+        input: None,
         read_fails: None,
         write_fails: None,
         out_room: AMPLE,
@@ -88,6 +90,12 @@ fn call(alloc: Global, words: &str, outside: Outside<'_>) -> Result<Answer, OutO
             contents: ByteList::from_slice(alloc, contents)?,
         })?;
     }
+    if let Some(input) = outside.input {
+        stored.push(StoredFile {
+            name: ByteList::from_slice(alloc, b"d")?,
+            contents: ByteList::from_slice(alloc, input)?,
+        })?;
+    }
     let mut files = MemoryFiles::new(stored, calls(alloc, outside.read_fails)?);
     let mut out = MemorySink::new(alloc, outside.out_room, calls(alloc, outside.write_fails)?)?;
     let mut err = MemorySink::new(alloc, outside.err_room, CallList::new(alloc))?;
@@ -120,7 +128,7 @@ fn is_answered(
 }
 
 #[test]
-fn words_are_in_the_table_or_the_usage_names_cause(rt: HostRuntime) -> Result<(), Fail> {
+fn words_are_in_the_table_or_the_usage_is_told(rt: HostRuntime) -> Result<(), Fail> {
     let not_built = Status::NotBuilt;
     let usage = "usage: check, compile, read, write, copy, run, sample\n";
     for words in [
@@ -143,7 +151,6 @@ fn words_are_in_the_table_or_the_usage_names_cause(rt: HostRuntime) -> Result<()
         assert!(rt; told, "{words}");
     }
     for words in [
-        "read s x 0 s",
         "write s x 32 s 16777216",
         "copy s x 0 s 0",
         "run s read_0 s 9223372036854775807",
@@ -279,7 +286,32 @@ fn the_text_of_the_compiler_is_written(rt: HostRuntime) -> Result<(), Fail> {
 }
 
 #[test]
-fn each_fault_names_cause_and_a_front_is_written(rt: HostRuntime) -> Result<(), Fail> {
+fn data_is_read_or_refused(rt: HostRuntime) -> Result<(), Fail> {
+    let none = "refused: no encoding\n";
+    let broken = "schema 1:5 byte 4 rule X1\n";
+    for (contents, input, status, out, line) in [
+        ("x = 5", b"\x05".as_slice(), Status::Done, "1 _\n", ""),
+        ("x = 5", b"\x05\x06", Status::Done, "1 _\n", ""),
+        ("x = 5", b"\x06", Status::Refused, "", none),
+        ("x = 5", b"\x18\x05", Status::Refused, "", none),
+        ("x = 5", b"", Status::Refused, "", none),
+        ("x = %", b"\x05", Status::Schema, "", broken),
+        ("x = 24", b"\x05", Status::NotBuilt, "", "not built\n"),
+    ] {
+        let mut outside = with_file(contents);
+        outside.input = Some(input);
+        let answer = call(rt.alloc(), "read s x 0 d", outside)?;
+        assert_eq!(rt; answer.status, status, "{contents} {input:?}");
+        assert_eq!(rt; answer.out.as_slice(), out.as_bytes());
+        assert_eq!(rt; answer.err.as_slice(), line.as_bytes());
+    }
+    let missing = call(rt.alloc(), "read s x 0 d", with_file("x = %"))?;
+    assert_eq!(rt; missing.status, Status::ReadFault);
+    Ok(())
+}
+
+#[test]
+fn each_fault_is_told_and_a_front_is_written(rt: HostRuntime) -> Result<(), Fail> {
     let whole = call(rt.alloc(), "compile s x 0", with_file("x = 5"))?.out;
     let (read, write) = (Status::ReadFault, Status::WriteFault);
     // The outside, the answer, its line, the bytes that are written, and the faults of the files and of `out`.
