@@ -38,7 +38,7 @@ use Rattle.ecd_ceval.specs.Blocks.{named, block_of, memory_of, kind_of, lasting_
 use Rattle.ecd_ceval.specs.Writes.{kind_holds, CellHolds, CellHoldsIn, HasCell, HasCellIn}
 use Rattle.ecd_ceval.specs.Steps.{Passes}
 use Rattle.ecd_ceval.specs.Following.{Follows, Whole, Part, Spends, Wants, IsCut, memory_in}
-use Rattle.ecd_ceval.specs.Machines.{unset, unset_of, kind_given, block_given, IsHeldAs, Stays, bytes_in, cells_in, set_in, with_cell_at, started, taken_by, IsWithin, Wanted, Answers, Runs, meaning, meaning_of, MaySet, info_in, AreNamed, AreNamedBy, IsSmall}
+use Rattle.ecd_ceval.specs.Machines.{unset, unset_of, kind_given, block_given, IsHeldAs, IsNumbered, AreNumbered, Stays, bytes_in, cells_in, set_in, with_cell_at, started, taken_by, IsWithin, Wanted, Answers, Runs, meaning, meaning_of, MaySet, info_in, AreNamed, AreNamedBy, IsSmall}
 use Rattle.ecd_ceval.proofs.Following.{Waits}
 use Rattle.ecd_ceval.proofs.Running.{waits_called}
 use Rattle.ecd_ceval.proofs.Keeping.{at_block, cells_set, kept_by}
@@ -167,9 +167,10 @@ pub record Prepared (structs : List StructDecl) (all rest : List Given) (held : 
   pub kinds : map kind_of held ++ map kind_given rest ≡ map kind_given all
   pub blocks : map block_of held ++ map (block_given structs) rest ≡ map (block_given structs) all
   pub holds : (m : Memory) → AreHeld structs m held
+  pub numbered : AreNumbered structs rest
 
-pub prepared_none : (structs : List StructDecl) (all : List Given) → Prepared structs all all []
-prepared_none structs all = record { kinds = refl; blocks = refl; holds = λ m. tt }
+pub prepared_none : (structs : List StructDecl) (all : List Given) → AreNumbered structs all → Prepared structs all all []
+prepared_none structs all h = record { kinds = refl; blocks = refl; holds = λ m. tt; numbered = h }
 
 moved : {A B C : Type 0} (f : A → C) (g : B → C) (xs : List A) (x : A) (ys : List B) (y : B) → f x ≡ g y → map f (xs ++ x ∷ []) ++ map g ys ≡ map f xs ++ map g (y ∷ ys)
 moved f g [] x ys y e = ap (λ z. z ∷ map g ys) e
@@ -187,7 +188,20 @@ prepared_next structs all rest rest' held held' given block p e h was = record {
       ap (λ l. map block_of l ++ map (block_given structs) rest') h ∙
       (moved block_of (block_given structs) held block rest' given was.block ∙ (ap (λ l. map block_of held ++ map (block_given structs) l) (sym e) ∙ p.blocks));
   holds = λ m. subst (λ (l : List Held). AreHeld structs m l) (sym h) (held_more structs m held block (p.holds m) (was.holds m));
+  numbered = later p.numbered;
 }
+  where
+    later : AreNumbered structs rest → AreNumbered structs rest'
+    later n = let both : AreNumbered structs (given ∷ rest') = subst (λ (l : List Given). AreNumbered structs l) e n in both.1
+
+pub next_numbered : (structs : List StructDecl) (all rest rest' : List Given) (held : List Held) (given : Given) → Prepared structs all rest held → rest ≡ given ∷ rest' → IsNumbered structs given
+next_numbered structs all rest rest' held given p e = let both : AreNumbered structs (given ∷ rest') = subst (λ (l : List Given). AreNumbered structs l) e p.numbered in both.0
+
+-- a struct that is there is found
+pub is_there : (structs : List StructDecl) (number : ℕ) → number < length structs → slice_get structs number ≡ None → ⊥
+is_there [] number lt e = omega arith
+is_there (s ∷ ss) zero lt e = cc
+is_there (s ∷ ss) (suc number) lt e = is_there ss number (omega arith) e
 
 pub prepared_kinds : (structs : List StructDecl) (all rest : List Given) (held : List Held) → Prepared structs all rest held → length rest ≡ 0 → map kind_of held ≡ map kind_given all
 prepared_kinds structs all [] held p e = sym (append-nil (map kind_of held)) ∙ p.kinds

@@ -5,7 +5,7 @@ ghost use Rattle.ecd_cast.specs.declared.value.Cell.TheVariants.{Unset};
 ghost use Rattle.ecd_cast.specs.Validity.{structs_of};
 ghost use Rattle.ecd_cast.specs.Fitting.{Fits, IsWellKinded, Output};
 ghost use Rattle.ecd_cast.specs.Memory.{Bytes};
-ghost use Rattle.ecd_ceval.specs.Machines.{IsHeldAs, AreNumbered, kind_given, block_given, value_of_arg, meaning, Answers, Stays, IsCells, cells_in, AreNamed, MaySet, set_in, CanView, viewed};
+ghost use Rattle.ecd_ceval.specs.Machines.{IsNumbered, IsHeldAs, AreNumbered, kind_given, block_given, value_of_arg, meaning, Answers, Stays, IsCells, cells_in, AreNamed, MaySet, set_in, CanView, viewed};
 
 use crate::blocks::{Held, set_cell};
 use crate::calls::run;
@@ -103,6 +103,7 @@ fn unset_cells(alloc: Global, declaration: &StructDecl) -> Result<Vec<Cell>, Out
 
 /// A block, as the machine holds it.
 fn hold<'a>(alloc: Global, items: &'a [CItem], block: Block<'a>) -> Result<Held<'a>, OutOfMemory>
+    requires { IsNumbered (structs_of items.now) block }
     ensures { IfOk result (λ held. IsHeldAs (structs_of items.entry.now) block.entry held) }
 {
     match block {
@@ -117,7 +118,7 @@ fn hold<'a>(alloc: Global, items: &'a [CItem], block: Block<'a>) -> Result<Held<
                     cells,
                 })
             }
-            None => Err(OutOfMemory),
+            None => unreachable!(),
         },
     }
 }
@@ -178,6 +179,7 @@ impl<'a> Machine<'a> {
         requires { Fits self.old.program.items self.old.kinds self.old.memory function (map value_of_arg args.now) }
         ensures answers { Answers (meaning self.old.program.items function (map value_of_arg args.now) self.old.memory) limit result self.old.memory self.new.memory }
         ensures stays { Stays self.old self.new }
+        ensures kinded { IsWellKinded self.new.program.items self.new.kinds self.new.memory }
     {
         let items = self.program.program().items.as_slice();
         run(self.alloc, items, function, args, limit, &mut self.state)
