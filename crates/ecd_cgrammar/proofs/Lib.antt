@@ -1,0 +1,11 @@
+pub mod Readers
+pub mod Layers
+pub mod Spelled
+pub mod Tables
+pub mod Sound
+pub mod Fine
+pub mod Complete
+pub mod Programs
+pub mod Lexing
+pub mod Verdicts
+pub mod Shallow

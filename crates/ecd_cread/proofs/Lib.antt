@@ -1,0 +1,5 @@
+pub mod Tokens
+pub mod Scanned
+pub mod Loops
+pub mod Digits
+pub mod Laying

@@ -1,0 +1,21 @@
+//! The reader of the C subset: from a text to the program that it spells, or to the first place at which it spells none.
+#![tactic(auto)]
+
+mod cursor;
+mod expressions;
+mod fault;
+mod items;
+mod lex;
+mod number;
+mod program;
+mod statements;
+mod token;
+mod valid;
+
+pub use ecd_cast::builder::Valid;
+pub use ecd_cast::fault::CFault;
+pub use lex::MOST_BYTES;
+pub use valid::read_c;
+
+#[cfg(test)]
+mod tests;
