@@ -1,0 +1,4 @@
+pub mod Ascending
+pub mod Alike
+pub mod MapLaw
+pub mod OneItem
