@@ -1,4 +1,5 @@
 pub mod Lists
 pub mod Maps
 pub mod Values
+pub mod Listed
 pub mod Laws

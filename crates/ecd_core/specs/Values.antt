@@ -1,5 +1,5 @@
 -- Which value an item has under a shape: RFC 8610, sections 2 and 3.
-use Rattle.std.specs.Prelude.{◌≡◌, ℕ, zero, suc, ◌<◌, ◌≤◌, ◌^◌, ◌⊎◌, ◌==◌, nat_lt, if◌then◌else◌, List, [], ◌∷◌, ◌++◌, length, map, Option, Some, None}
+use Rattle.std.specs.Prelude.{Bool, ◌≡◌, ℕ, zero, suc, ◌<◌, ◌≤◌, ◌^◌, ◌⊎◌, ◌==◌, nat_lt, if◌then◌else◌, List, [], ◌∷◌, ◌++◌, length, map, Option, Some, None}
 use Rattle.std.specs.Str.{IsUtf8}
 use Rattle.ecd_keyorder.specs.declared.Order.{Order}
 use Rattle.ecd_item.specs.declared.item.Item.{Item, Array' as Array-i, Map' as Map-i, Tag' as Tag-i}
@@ -18,7 +18,7 @@ use Rattle.ecd_core.specs.declared.shape.Pick.{Pick, Pick', Row_of-MapWay, end_o
 use Rattle.ecd_core.specs.declared.value.Value.{Value}
 use Rattle.ecd_core.specs.declared.value.Value.TheVariants as v
 use Rattle.ecd_core.specs.Lists.{Each}
-use Rattle.ecd_core.specs.Maps.{FieldMeaning, EntryMeaning, IsField, IsPick, IsTable, MapHas}
+use Rattle.ecd_core.specs.Maps.{ItemValues, FieldMeaning, EntryMeaning, IsField, IsPick, IsTable, MapHas}
 
 -- ---- words
 
@@ -66,6 +66,10 @@ key_of (Cbor' _ inner) = None
 key_of (Choice' _ ways) = None
 key_of (Array' _ parts) = None
 key_of (Map' _ entries) = None
+
+-- A field is needed where its lower bound is not 0 (section 3.2).
+abbrev pub field_from : Option Item → Bool → ℕ → ItemValues → FieldMeaning
+field_from key cut lo under = record { key = key; cut = cut; needed = nat_lt 0 lo; under = under }
 
 -- A run of a body: its items and the values of its parts.
 abbrev pub Run : Type 0
@@ -140,7 +144,7 @@ unfoldable mutual
   meanings order (more_of-MapEntry entry rest) = meaning order entry ∷ meanings order rest
 
   pub meaning : Order → MapEntry → EntryMeaning
-  meaning order (Field' at _ key cut lo _ kind) = IsField record { key = key_of key; cut = cut; needed = nat_lt 0 lo; under = Gives order kind }
+  meaning order (Field' at _ key cut lo _ kind) = IsField (field_from (key_of key) cut lo (Gives order kind))
   meaning order (m.Pick pick) = pick_meaning order pick
   meaning order (Table' at lo hi _ key _ kind) = IsTable lo hi (Gives order key) (Gives order kind)
 
@@ -154,10 +158,13 @@ unfoldable mutual
   -- The fields among the entries. A pick or a table in a way has no part in it.
   pub field_meanings : {m : _} → Order → Row_of-MapEntry m → List FieldMeaning
   field_meanings order end_of-MapEntry = []
-  field_meanings order (more_of-MapEntry (Field' at _ key cut lo _ kind) rest) =
-      record { key = key_of key; cut = cut; needed = nat_lt 0 lo; under = Gives order kind } ∷ field_meanings order rest
+  field_meanings order (more_of-MapEntry (Field' at _ key cut lo _ kind) rest) = field_from (key_of key) cut lo (Gives order kind) ∷ field_meanings order rest
   field_meanings order (more_of-MapEntry (m.Pick pick) rest) = field_meanings order rest
   field_meanings order (more_of-MapEntry (Table' at lo hi _ key _ kind) rest) = field_meanings order rest
+
+-- What a field of these parts means.
+abbrev pub field_meaning : Order → Kind → Bool → ℕ → Kind → FieldMeaning
+field_meaning order key cut lo kind = field_from (key_of key) cut lo (Gives order kind)
 
 -- The item has the value under the shape.
 abbrev pub HasValue : Order → Shape → Item → Value → Type 0
