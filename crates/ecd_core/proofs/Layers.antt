@@ -1,6 +1,5 @@
 -- The relation by cases, over the lists of the source.
-use Rattle.std.proofs.Common.{◌≡◌, ℕ, zero, suc, ◌+◌, ◌<◌, ◌≤◌, ◌^◌, ◌⊎◌, List, [], ◌∷◌, ◌++◌, length, map, refl, ap, sym, ◌∙◌, subst, rules, Bool, nat_lt}
-use Rattle.std.specs.Str.{IsUtf8}
+use Rattle.std.proofs.Common.{◌≡◌, ℕ, zero, suc, ◌<◌, ◌^◌, ◌⊎◌, List, [], ◌∷◌, ◌++◌, length, map, refl, ap, sym, ◌∙◌, subst, rules, Bool}
 use mathlib.Core.Former.{Count}
 use denote.Hole.Carrier.{hidden, shown}
 use Rattle.ecd_keyorder.specs.declared.Order.{Order}
@@ -8,7 +7,7 @@ use Rattle.ecd_item.specs.declared.item.Item.{Item}
 use Rattle.ecd_item.specs.declared.item.Item.TheVariants as i
 use Rattle.ecd_item.specs.declared.item.Pair.{Pair}
 use Rattle.ecd_item.specs.Encoding.{encoding}
-use Rattle.ecd_item.specs.Valid.{IsValid, IsWhole}
+use Rattle.ecd_item.specs.Valid.{IsValid}
 use Rattle.ecd_core.specs.declared.shape.Kind.{Kind, Choice', Tag', Cbor', AnyTag', Array', Map', Row_of-Shape, end_of-Shape, more_of-Shape, Row_of-MapEntry, end_of-MapEntry, more_of-MapEntry, items-the_row-Shape, items-the_row-MapEntry, roll-Kind, roll-out-Kind, the_lemmas}
 use Rattle.ecd_core.specs.declared.shape.Kind.TheVariants as k
 use Rattle.ecd_core.specs.declared.shape.Kind.TheViews as views
@@ -22,27 +21,27 @@ use Rattle.ecd_core.specs.declared.shape.MapEntry.{MapEntry, Field', Table'}
 use Rattle.ecd_core.specs.declared.shape.MapEntry.TheVariants as m
 use Rattle.ecd_core.specs.declared.shape.Field.{Field}
 use Rattle.ecd_core.specs.declared.shape.Table.{Table}
-use Rattle.ecd_core.specs.declared.shape.Pick.{Pick, Pick', Row_of-MapWay, end_of-MapWay, more_of-MapWay, items-the_row-MapWay, out-Pick, roll-Pick, roll-out-Pick, out-roll-Pick}
+use Rattle.ecd_core.specs.declared.shape.Pick.{Pick, Pick', Row_of-MapWay, end_of-MapWay, more_of-MapWay, items-the_row-MapWay, out-Pick}
 use Rattle.ecd_core.specs.declared.shape.MapWay.{MapWay}
 use Rattle.ecd_core.specs.declared.value.Value.{Value}
 use Rattle.ecd_core.specs.declared.value.Value.TheVariants as v
 use Rattle.ecd_core.specs.Lists.{Each}
 use Rattle.ecd_core.specs.Maps.{FieldMeaning, EntryMeaning, IsField, IsPick, IsTable, MapHas}
-use Rattle.ecd_core.specs.Values.{IsWithin, numbered, IsArgument, IsSimple, major_of, key_of, Run, run_items, run_value, Gives, OnlyGives, AlternativeGives, PartsGive, PartGives, WayGives, meanings, meaning, pick_meaning, way_meanings, field_meanings, field_from, field_meaning, HasValue}
+use Rattle.ecd_core.specs.Values.{IsWithin, Run, run_items, run_value, Gives, AlternativeGives, PartsGive, PartGives, WayGives, meanings, meaning, way_meanings, field_meanings, field_meaning, HasValue}
 use Rattle.ecd_core.specs.Listed.{IsAt, PartsHave, entries_mean, fields_mean, ways_mean}
 
 -- ---- rows are lists
 
-parts-shown : (s : List (Unit {0})) (r : _) → block.shown-the_row-Part-2 s r ≡ items-the_row-Part _ r
+pub parts-shown : (s : List (Unit {0})) (r : _) → block.shown-the_row-Part-2 s r ≡ items-the_row-Part _ r
 parts-shown s r = search (rules, the_lemmas)
 
-shapes-shown : (s : List (Unit {0})) (r : _) → block.shown-the_row-Shape-1 s r ≡ items-the_row-Shape _ r
+pub shapes-shown : (s : List (Unit {0})) (r : _) → block.shown-the_row-Shape-1 s r ≡ items-the_row-Shape _ r
 shapes-shown s r = search (rules, the_lemmas)
 
-entries-shown : (s : List (Unit {0})) (r : _) → block.shown-the_row-MapEntry-3 s r ≡ items-the_row-MapEntry _ r
+pub entries-shown : (s : List (Unit {0})) (r : _) → block.shown-the_row-MapEntry-3 s r ≡ items-the_row-MapEntry _ r
 entries-shown s r = search (rules, the_lemmas)
 
-pick-out : (at : ℕ) (needed : Bool) (s : List (Unit {0})) (r : _) → out-Pick (Pick' at needed s r) ≡ record { at = at; needed = needed; ways = items-the_row-MapWay _ r }
+pub pick-out : (at : ℕ) (needed : Bool) (s : List (Unit {0})) (r : _) → out-Pick (Pick' at needed s r) ≡ record { at = at; needed = needed; ways = items-the_row-MapWay _ r }
 pick-out at needed s r = search (rules, the_lemmas)
 
 module _ (order : Order) where
@@ -84,7 +83,7 @@ module _ (order : Order) where
   entries-row end_of-MapEntry = refl
   entries-row (more_of-MapEntry entry rest) = ap (λ (x : List EntryMeaning). meaning order entry ∷ x) (entries-row rest)
 
--- ---- one equation for each kind
+  -- ---- one equation for each kind
 
   pub Gives-Tag : (n : ℕ) (s : Shape) (item : Item) (value : Value) → Gives order (k.Tag n s) item value ≡ ((content : Item) × (item ≡ i.Tag n content) × (n < 2 ^ 64) × HasValue order s content value)
   unfolding Gives block.hidden-the_row-Shape-0 hidden
@@ -104,7 +103,7 @@ module _ (order : Order) where
   unfolding Gives
   Gives-Choice ss item value =
       λ j. (number : ℕ) × (one : Value) × (value ≡ v.Way number one)
-          × (alternative-row (block.hidden-the_row-Shape-1 ss) number item one ∙ ap (λ (x : List Shape). IsAt (λ (s : Shape). HasValue order s item one) x number) (block.items_hidden-the_row-Shape-1 ss)) j
+      × (alternative-row (block.hidden-the_row-Shape-1 ss) number item one ∙ ap (λ (x : List Shape). IsAt (λ (s : Shape). HasValue order s item one) x number) (block.items_hidden-the_row-Shape-1 ss)) j
 
   pub parts-list : (parts : List Part) (items : List Item) (values : List Value) → PartsGive order (block.hidden-the_row-Part-2 parts) items values ≡ PartsHave order parts items values
   parts-list parts items values = parts-row (block.hidden-the_row-Part-2 parts) items values ∙ ap (λ (x : List Part). PartsHave order x items values) (block.items_hidden-the_row-Part-2 parts)
@@ -121,7 +120,7 @@ module _ (order : Order) where
       let means = entries-row (block.hidden-the_row-MapEntry-3 entries) ∙ ap (entries_mean order) (block.items_hidden-the_row-MapEntry-3 entries) in
       λ j. (pairs : List Pair) × (values : List Value) × (item ≡ i.Map pairs) × (value ≡ v.Group values) × MapHas order (means j) pairs values
 
--- ---- one for each part
+  -- ---- one for each part
 
   pub PartGives-One : (s : Shape) (items : List Item) (value : Value) → PartGives order (p.One s) items value ≡ ((item : Item) × (items ≡ item ∷ []) × HasValue order s item value)
   unfolding Gives
@@ -145,9 +144,9 @@ module _ (order : Order) where
   unfolding Gives
   PartGives-Alt at ways items value =
       λ j. (number : ℕ) × (values : List Value) × (value ≡ v.Way number (v.Group values))
-          × (way-row (block.hidden-the_row-Way-4 ways) number items values ∙ ap (λ (x : List Way). IsAt (λ (w : Way). PartsHave order w.body.parts items values) x number) (block.items_hidden-the_row-Way-4 ways)) j
+      × (way-row (block.hidden-the_row-Way-4 ways) number items values ∙ ap (λ (x : List Way). IsAt (λ (w : Way). PartsHave order w.body.parts items values) x number) (block.items_hidden-the_row-Way-4 ways)) j
 
--- ---- one for each entry
+  -- ---- one for each entry
 
   pub meaning-Field : (f : Field) → meaning order (m.Field f) ≡ IsField (field_meaning order f.key.kind f.cut f.lo f.value.kind)
   unfolding Gives

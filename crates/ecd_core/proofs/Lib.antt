@@ -1,5 +1,7 @@
 pub mod Ascending
-pub mod Alike
 pub mod MapLaw
 pub mod OneItem
 pub mod Layers
+pub mod WalkLayers
+pub mod WalkLaws
+pub mod ValueLayers

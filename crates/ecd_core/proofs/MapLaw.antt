@@ -10,7 +10,7 @@ use Rattle.ecd_core.specs.declared.value.Value.TheVariants as v
 use Rattle.ecd_core.specs.Lists.{Each, HasSome, EachWith, IsIn}
 use Rattle.ecd_core.specs.Maps.{ItemValues, FieldMeaning, EntryMeaning, IsField, IsPick, IsTable, GivesPair, Suits, way_of, IsTaken, Takes, held, FieldHas, PickHas, RowHas, EntryHas, list_of, IsInOneList, value_of, MapHas}
 use Rattle.ecd_core.proofs.Ascending.{some_from_in, in_from_some, each_at, same_key, same_members}
-use Rattle.ecd_core.proofs.Alike.{ways_alike, groups_alike, manys_alike, absent_present, absent_way, held_alike}
+use Rattle.ecd_core.proofs.ValueLayers.{ways_alike, groups_alike, manys_alike, absent_present, absent_way, held_alike}
 
 -- a value belongs to at most one item
 abbrev pub OneItem : ItemValues → Type 0

@@ -19,7 +19,7 @@ use Rattle.ecd_core.specs.Lists.{Each}
 use Rattle.ecd_core.specs.Maps.{MapHas}
 use Rattle.ecd_core.specs.Values.{Run, run_items, run_value, Gives, OnlyGives, AlternativeGives, PartsGive, PartGives, WayGives, meanings, meaning, pick_meaning, way_meanings, field_meanings}
 use Rattle.ecd_core.specs.Laws.{HasOneItem}
-use Rattle.ecd_core.proofs.Alike.{ways_alike, tagged_alike, groups_alike, manys_alike, presents_alike, absent_present, bytes_alike, numbers_alike}
+use Rattle.ecd_core.proofs.ValueLayers.{ways_alike, tagged_alike, groups_alike, manys_alike, presents_alike, absent_present, bytes_alike, numbers_alike}
 use Rattle.ecd_core.proofs.MapLaw.{OneEntry, OneUnder, one_map}
 
 same_encoding : (order : Order) (a b : Item) → IsValid order a → IsValid order b → encoding a ≡ encoding b → a ≡ b

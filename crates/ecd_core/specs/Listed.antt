@@ -1,16 +1,14 @@
 -- The relation over the lists of the source, by which the crates above cite it.
-use Rattle.std.specs.Prelude.{◌≡◌, ℕ, zero, suc, nat_lt, List, [], ◌∷◌, ◌++◌, map}
+use Rattle.std.specs.Prelude.{◌≡◌, ℕ, zero, suc, List, [], ◌∷◌, ◌++◌, map}
 use Rattle.ecd_keyorder.specs.declared.Order.{Order}
 use Rattle.ecd_item.specs.declared.item.Item.{Item}
-use Rattle.ecd_core.specs.declared.shape.Shape.{Shape}
 use Rattle.ecd_core.specs.declared.shape.Part.{Part}
-use Rattle.ecd_core.specs.declared.shape.Way.{Way}
 use Rattle.ecd_core.specs.declared.shape.MapEntry.{MapEntry, Field', Table'}
 use Rattle.ecd_core.specs.declared.shape.MapEntry.TheVariants as m
 use Rattle.ecd_core.specs.declared.shape.MapWay.{MapWay}
 use Rattle.ecd_core.specs.declared.value.Value.{Value}
 use Rattle.ecd_core.specs.Maps.{FieldMeaning, EntryMeaning}
-use Rattle.ecd_core.specs.Values.{Gives, PartGives, HasValue, field_meaning, meaning}
+use Rattle.ecd_core.specs.Values.{PartGives, field_meaning, meaning}
 
 -- It is so of the element of this number, and there is one.
 abbrev pub IsAt : {A : Type 0} → (A → Type 0) → List A → ℕ → Type 0

@@ -1,8 +1,15 @@
-//! Laws of values: facts about the definitions alone.
+//! Laws of values and shapes: facts about the definitions alone.
 
 ghost use Rattle.ecd_core.specs.Laws.{HasOneItem};
+ghost use Rattle.ecd_core.specs.Walks.{NestNoDeeper, StandTogether};
 
 /// A value belongs to at most one item of a shape.
 pub fn one_item_of_a_value()
     ensures { HasOneItem }
+{}
+
+/// The nodes of a shape are numbered so that those inside a node follow it without a gap; no more lie inside each other than there are.
+pub fn nodes_of_a_shape()
+    ensures together { StandTogether }
+    ensures nesting { NestNoDeeper }
 {}

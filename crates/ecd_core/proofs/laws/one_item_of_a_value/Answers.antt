@@ -1,4 +1,3 @@
-use Rattle.ecd_core.proofs.Layers.{Gives-Tag}
 use Rattle.ecd_core.proofs.OneItem.{has_one_item}
 use Rattle.ecd_core.proofs.laws.one_item_of_a_value.Goals as goal
 
