@@ -5,3 +5,6 @@ pub mod Layers
 pub mod WalkLayers
 pub mod WalkLaws
 pub mod ValueLayers
+pub mod Telling
+pub mod Contents
+pub mod Fits

@@ -22,7 +22,7 @@ use Rattle.ecd_core.specs.Laws.{HasOneItem}
 use Rattle.ecd_core.proofs.ValueLayers.{ways_alike, tagged_alike, groups_alike, manys_alike, presents_alike, absent_present, bytes_alike, numbers_alike}
 use Rattle.ecd_core.proofs.MapLaw.{OneEntry, OneUnder, one_map}
 
-same_encoding : (order : Order) (a b : Item) → IsValid order a → IsValid order b → encoding a ≡ encoding b → a ≡ b
+pub same_encoding : (order : Order) (a b : Item) → IsValid order a → IsValid order b → encoding a ≡ encoding b → a ≡ b
 same_encoding order a b p q e = (begins_with_one_item order a b [] [] p q (ap (λ (x : List ℕ). x ++ []) e)).0
 
 runs_alike : (P : List Item → List Value → Type 0) → ((xs ys : List Item) (ws : List Value) → P xs ws → P ys ws → xs ≡ ys) → (rs ss : List Run) → map run_value rs ≡ map run_value ss

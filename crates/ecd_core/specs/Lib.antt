@@ -4,4 +4,6 @@ pub mod Values
 pub mod Listed
 pub mod Nodes
 pub mod Walks
+pub mod Asked
+pub mod Splits
 pub mod Laws
