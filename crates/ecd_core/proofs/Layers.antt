@@ -26,7 +26,7 @@ use Rattle.ecd_core.specs.declared.shape.MapWay.{MapWay}
 use Rattle.ecd_core.specs.declared.value.Value.{Value}
 use Rattle.ecd_core.specs.declared.value.Value.TheVariants as v
 use Rattle.ecd_core.specs.Lists.{Each}
-use Rattle.ecd_core.specs.Maps.{FieldMeaning, EntryMeaning, IsField, IsPick, IsTable, MapHas}
+use Rattle.ecd_core.specs.Maps.{FieldMeaning, EntryMeaning, AField, APick, ATable, MapHas}
 use Rattle.ecd_core.specs.Values.{IsWithin, Run, run_items, run_value, Gives, AlternativeGives, PartsGive, PartGives, WayGives, meanings, meaning, way_meanings, field_meanings, field_meaning, HasValue}
 use Rattle.ecd_core.specs.Listed.{IsAt, PartsHave, entries_mean, fields_mean, ways_mean}
 
@@ -148,18 +148,18 @@ module _ (order : Order) where
 
   -- ---- one for each entry
 
-  pub meaning-Field : (f : Field) → meaning order (m.Field f) ≡ IsField (field_meaning order f.key.kind f.cut f.lo f.value.kind)
+  pub meaning-Field : (f : Field) → meaning order (m.Field f) ≡ AField (field_meaning order f.key.kind f.cut f.lo f.value.kind)
   unfolding Gives
   meaning-Field f = refl
 
-  pub meaning-Table : (t : Table) → meaning order (m.Table t) ≡ IsTable t.lo t.hi (HasValue order t.key) (HasValue order t.value)
+  pub meaning-Table : (t : Table) → meaning order (m.Table t) ≡ ATable t.lo t.hi (HasValue order t.key) (HasValue order t.value)
   unfolding Gives
   meaning-Table t = refl
 
-  pub meaning-Pick : (pick : Pick) → meaning order (m.Pick pick) ≡ IsPick (out-Pick pick).needed (ways_mean order (out-Pick pick).ways)
+  pub meaning-Pick : (pick : Pick) → meaning order (m.Pick pick) ≡ APick (out-Pick pick).needed (ways_mean order (out-Pick pick).ways)
   unfolding Gives
   meaning-Pick (Pick' at needed s ways) = let e = pick-out at needed s ways in let w = ways-row ways in
-      ap (λ (x : List (List FieldMeaning)). IsPick needed x) w ∙ sym (ap (λ x. IsPick x.needed (ways_mean order x.ways)) e)
+      ap (λ (x : List (List FieldMeaning)). APick needed x) w ∙ sym (ap (λ x. APick x.needed (ways_mean order x.ways)) e)
 
 -- ---- induction over shapes
 

@@ -8,7 +8,7 @@ use Rattle.ecd_item.specs.Valid.{Ascend}
 use Rattle.ecd_core.specs.declared.value.Value.{Value}
 use Rattle.ecd_core.specs.declared.value.Value.TheVariants as v
 use Rattle.ecd_core.specs.Lists.{Each, HasSome, EachWith, IsIn}
-use Rattle.ecd_core.specs.Maps.{ItemValues, FieldMeaning, EntryMeaning, IsField, IsPick, IsTable, GivesPair, Suits, way_of, IsTaken, Takes, held, FieldHas, PickHas, RowHas, EntryHas, list_of, IsInOneList, value_of, MapHas}
+use Rattle.ecd_core.specs.Maps.{ItemValues, FieldMeaning, EntryMeaning, AField, APick, ATable, GivesPair, Suits, way_of, IsTaken, Takes, held, FieldHas, PickHas, RowHas, EntryHas, list_of, IsInOneList, value_of, MapHas}
 use Rattle.ecd_core.proofs.Ascending.{some_from_in, in_from_some, each_at, same_key, same_members}
 use Rattle.ecd_core.proofs.ValueLayers.{ways_alike, groups_alike, manys_alike, absent_present, absent_way, held_alike}
 
@@ -20,9 +20,9 @@ abbrev pub OneUnder : FieldMeaning → Type 0
 OneUnder field = OneItem field.under
 
 abbrev pub OneEntry : EntryMeaning → Type 0
-OneEntry (IsField field) = OneUnder field
-OneEntry (IsPick needed ways) = Each (Each OneUnder) ways
-OneEntry (IsTable lo hi keys under) = OneItem keys × OneItem under
+OneEntry (AField field) = OneUnder field
+OneEntry (APick needed ways) = Each (Each OneUnder) ways
+OneEntry (ATable lo hi keys under) = OneItem keys × OneItem under
 
 pair_alike : (p q : Pair) → p.key ≡ q.key → p.value ≡ q.value → p ≡ q
 pair_alike p q e f = λ i. record { key = e i; value = f i }
@@ -55,7 +55,7 @@ module _ (order : Order) (ps qs : List Pair) (ascend : Ascend order (map key_byt
   fields_taken (field ∷ way) one (u ∷ us) (w ∷ ws) e p q pair here (inr suits) = fields_taken way one.1 us ws (cc) p.1 q.1 pair here suits
 
   pick_taken : (needed : Bool) (ways : List (List FieldMeaning)) → Each (Each OneUnder) ways → (u w : Value) → u ≡ w → PickHas ps needed ways u → PickHas qs needed ways w
-      → (pair : Pair) → IsIn pair ps → Takes ps pair (IsPick needed ways) → IsIn pair qs
+      → (pair : Pair) → IsIn pair ps → Takes ps pair (APick needed ways) → IsIn pair qs
   pick_taken needed ways one u w e (inr p) q pair here takes = absurd (p.1 takes.0 takes.1)
   pick_taken needed ways one u w e (inl p) (inr q) pair here takes = absurd (absent_way p.0 (v.Group p.1) (sym q.2 ∙ (sym e ∙ p.4)))
   pick_taken needed ways one u w e (inl p) (inl q) pair here takes =
@@ -66,9 +66,9 @@ module _ (order : Order) (ps qs : List Pair) (ascend : Ascend order (map key_byt
       (subst (λ (n : ℕ). HasSome (λ field. Suits field pair) (way_of ways n)) here_too takes.2)
 
   entry_taken : (entry : EntryMeaning) → OneEntry entry → (u w : List Pair × Value) → u.1 ≡ w.1 → EntryHas order ps entry u → EntryHas order qs entry w → (pair : Pair) → IsIn pair ps → Takes ps pair entry → IsIn pair qs
-  entry_taken (IsField field) one u w e p q pair here takes = field_taken field one u.1 w.1 e p.1 q.1 pair here takes
-  entry_taken (IsPick needed ways) one u w e p q pair here takes = pick_taken needed ways one u.1 w.1 e p.1 q.1 pair here takes
-  entry_taken (IsTable lo hi keys under) one u w e p q pair here takes = absurd takes
+  entry_taken (AField field) one u w e p q pair here takes = field_taken field one u.1 w.1 e p.1 q.1 pair here takes
+  entry_taken (APick needed ways) one u w e p q pair here takes = pick_taken needed ways one u.1 w.1 e p.1 q.1 pair here takes
+  entry_taken (ATable lo hi keys under) one u w e p q pair here takes = absurd takes
 
   taken : (entries : List EntryMeaning) → Each OneEntry entries → (us ws : List (List Pair × Value)) → map value_of us ≡ map value_of ws → EachWith (EntryHas order ps) entries us → EachWith (EntryHas order qs) entries ws
       → (pair : Pair) → IsIn pair ps → HasSome (Takes ps pair) entries → IsIn pair qs
@@ -104,9 +104,9 @@ rows_alike keys under f g (x ∷ ps) (y ∷ qs) (u ∷ us) (w ∷ ws) e p q =
 
 module _ (order : Order) (ps qs : List Pair) where
   entry_list : (entry : EntryMeaning) → OneEntry entry → (u w : List Pair × Value) → u.1 ≡ w.1 → EntryHas order ps entry u → EntryHas order qs entry w → u ≡ w
-  entry_list (IsField field) one u w e p q = λ i. ((p.0 ∙ sym q.0) i, e i)
-  entry_list (IsPick needed ways) one u w e p q = λ i. ((p.0 ∙ sym q.0) i, e i)
-  entry_list (IsTable lo hi keys under) one u w e p q =
+  entry_list (AField field) one u w e p q = λ i. ((p.0 ∙ sym q.0) i, e i)
+  entry_list (APick needed ways) one u w e p q = λ i. ((p.0 ∙ sym q.0) i, e i)
+  entry_list (ATable lo hi keys under) one u w e p q =
       let rows = manys_alike p.0 q.0 (sym p.5 ∙ (e ∙ q.5)) in
       let lists : u.0 ≡ w.0 = rows_alike keys under one.0 one.1 u.0 w.0 p.0 q.0 rows p.4 q.4 in
       λ i. (lists i, e i)

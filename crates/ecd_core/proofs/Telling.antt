@@ -10,8 +10,8 @@ use Rattle.ecd_core.specs.declared.value.Value.{Value}
 use Rattle.ecd_core.specs.declared.value.Value.TheVariants as v
 use Rattle.ecd_core.specs.Asked.{Asked}
 use Rattle.ecd_item.specs.Encoding.{encoding}
-use Rattle.ecd_item.specs.Valid.{IsWhole}
-use Rattle.ecd_core.specs.Values.{Gives, IsWithin, IsArgument, IsSimple, numbered, major_of}
+use Rattle.ecd_item.specs.Valid.{IsValid, IsWhole}
+use Rattle.ecd_core.specs.Values.{Gives, IsWithin, IsArgument, numbered, major_of}
 
 pub no_true : false ≡ true → ⊥
 no_true e = cc
@@ -106,13 +106,13 @@ module _ (order : Order) (item : Item) (o : Option Value) where
   unfolding Gives
   no_text_is l none = never (λ p. let q = asked_some o _ p in none l q.1.0)
 
-  pub tells_simple : (n : ℕ) → item ≡ i.Simple n → IsSimple n → {b : Bool} → (IsTrue b ↔ Asked o (λ w. w ≡ v.Unit)) → IsTrue b ↔ Asked o (Gives order (k.Simple n) item)
+  pub tells_simple : (n : ℕ) → item ≡ i.Simple n → IsValid order (i.Simple n) → {b : Bool} → (IsTrue b ↔ Asked o (λ w. w ≡ v.Unit)) → IsTrue b ↔ Asked o (Gives order (k.Simple n) item)
   unfolding Gives
-  tells_simple n e s t = reworded t (asked_map o _ _ (λ w q. (e, s, q))) (asked_map o _ _ (λ w q. q.2))
+  tells_simple n e s t = reworded t (asked_map o _ _ (λ w q. (e, subst (IsValid order) (sym e) s, q))) (asked_map o _ _ (λ w q. q.2))
 
-  pub bad_simple : (n : ℕ) → (item ≡ i.Simple n → IsSimple n → ⊥) → IsTrue false ↔ Asked o (Gives order (k.Simple n) item)
+  pub bad_simple : (n : ℕ) → (item ≡ i.Simple n → IsValid order (i.Simple n) → ⊥) → IsTrue false ↔ Asked o (Gives order (k.Simple n) item)
   unfolding Gives
-  bad_simple n none = never (λ p. let q = asked_some o _ p in none q.1.0 q.1.1)
+  bad_simple n none = never (λ p. let q = asked_some o _ p in none q.1.0 (subst (IsValid order) q.1.0 q.1.1))
 
   pub tells_any : (depth : ℕ) (bs : List ℕ) → IsWhole order depth item → bs ≡ encoding item → {b : Bool} → (IsTrue b ↔ Asked o (λ w. w ≡ v.Bytes bs)) → IsTrue b ↔ Asked o (Gives order (k.Any depth) item)
   unfolding Gives

@@ -1,4 +1,5 @@
--- Which value a map has: RFC 8610, sections 3.5.1 to 3.5.4 and appendix A. Entries stand here by what they mean, and no shape is looked at.
+-- Which value a map has. RFC 8610 has fields, tables and cuts (sections 3.5.1, 3.5.2 and 3.5.4) and a first match (appendix A), and leaves open how the pairs
+-- of a map are matched with its entries; the matching here is this project's own, in their sense. Entries stand here by what they mean, and no shape is looked at.
 use Rattle.std.specs.Prelude.{◌≡◌, ℕ, ◌<◌, ◌≤◌, ◌⊎◌, Bool, true, false, List, [], ◌∷◌, length, map, get_or, Option, Some}
 use Rattle.ecd_keyorder.specs.declared.Order.{Order}
 use Rattle.ecd_item.specs.declared.item.Item.{Item}
@@ -24,9 +25,9 @@ pub record FieldMeaning : Type 1 where
 
 -- A field; a choice of groups of fields, one of which may be needed; a table (section 3.5.2) by the bounds of its number, its keys and its values.
 pub data EntryMeaning : Type 1 where
-  IsField : FieldMeaning → EntryMeaning
-  IsPick : (needed : Bool) → (ways : List (List FieldMeaning)) → EntryMeaning
-  IsTable : (lo hi : ℕ) → (keys under : ItemValues) → EntryMeaning
+  AField : FieldMeaning → EntryMeaning
+  APick : (needed : Bool) → (ways : List (List FieldMeaning)) → EntryMeaning
+  ATable : (lo hi : ℕ) → (keys under : ItemValues) → EntryMeaning
 
 -- ---- fields and pairs
 
@@ -46,7 +47,7 @@ Fits pairs field = HasSome (Suits field) pairs
 abbrev pub Stops : FieldMeaning → Pair → Type 0
 Stops field pair = (field.cut ≡ true) × (field.key ≡ Some pair.key) × (Suits field pair → ⊥)
 
--- ---- the ways of a pick (appendix A: the first alternative that matches)
+-- ---- the ways of a pick: the first that matches, in the sense of appendix A
 
 -- All needed fields of the way fit.
 abbrev pub NeededFit : List Pair → List FieldMeaning → Type 0
@@ -69,17 +70,18 @@ pub record IsTried (pairs : List Pair) (ways : List (List FieldMeaning)) (number
 
 -- ---- which pairs fields take, and which they block
 
--- A field of this entry takes the pair: a plain field that it suits, or such a field of the taken way.
+-- A field of this entry takes the pair: a plain field which the pair suits, or such a field of the taken way.
 abbrev pub Takes : List Pair → Pair → EntryMeaning → Type 0
-Takes pairs pair (IsField field) = Suits field pair
-Takes pairs pair (IsPick needed ways) = (number : ℕ) × IsTaken pairs ways number × HasSome (λ field. Suits field pair) (way_of ways number)
-Takes pairs pair (IsTable lo hi keys under) = ⊥
+Takes pairs pair (AField field) = Suits field pair
+Takes pairs pair (APick needed ways) = (number : ℕ) × IsTaken pairs ways number × HasSome (λ field. Suits field pair) (way_of ways number)
+Takes pairs pair (ATable lo hi keys under) = ⊥
 
--- A tried field of this entry stops the pair: a plain field, or a field of a tried way.
+-- A tried field of this entry stops the pair: a plain field, or a field of a tried way. It is asked only of a pair that no field takes: a field of a way tried
+-- before the taken one may stop a pair that the taken way takes.
 abbrev pub Blocks : List Pair → Pair → EntryMeaning → Type 0
-Blocks pairs pair (IsField field) = Stops field pair
-Blocks pairs pair (IsPick needed ways) = (number : ℕ) × IsTried pairs ways number × HasSome (λ field. Stops field pair) (way_of ways number)
-Blocks pairs pair (IsTable lo hi keys under) = ⊥
+Blocks pairs pair (AField field) = Stops field pair
+Blocks pairs pair (APick needed ways) = (number : ℕ) × IsTried pairs ways number × HasSome (λ field. Stops field pair) (way_of ways number)
+Blocks pairs pair (ATable lo hi keys under) = ⊥
 
 -- ---- values
 
@@ -111,9 +113,9 @@ TableHas order lo hi keys under listed value =
 
 -- An entry, its list and its value. Only a table has pairs in its list.
 abbrev pub EntryHas : Order → List Pair → EntryMeaning → List Pair × Value → Type 0
-EntryHas order pairs (IsField field) it = (it.0 ≡ []) × FieldHas pairs field it.1
-EntryHas order pairs (IsPick needed ways) it = (it.0 ≡ []) × PickHas pairs needed ways it.1
-EntryHas order pairs (IsTable lo hi keys under) it = TableHas order lo hi keys under it.0 it.1
+EntryHas order pairs (AField field) it = (it.0 ≡ []) × FieldHas pairs field it.1
+EntryHas order pairs (APick needed ways) it = (it.0 ≡ []) × PickHas pairs needed ways it.1
+EntryHas order pairs (ATable lo hi keys under) it = TableHas order lo hi keys under it.0 it.1
 
 -- The list of the entry of this number.
 abbrev pub list_of : List (List Pair × Value) → ℕ → List Pair
@@ -126,8 +128,8 @@ IsInOneList them pair = (number : ℕ) × IsIn pair (list_of them number) × ((o
 abbrev pub value_of : List Pair × Value → Value
 value_of it = it.1
 
--- A map has these values of its entries, in order, where its keys are valid and ascend strictly in the order (RFC 8949, section 4.2.1), and each pair is
--- taken by a field or stands in the list of one table; what stands there is a pair that no field takes and none blocks.
+-- A map has these values of its entries, in order, where each entry has its value, the keys are valid and ascend strictly in the order
+-- (RFC 8949, section 4.2.1), and each pair is taken by a field or stands in the list of one table; what stands there is a pair that no field takes and none blocks.
 pub record MapHas (order : Order) (entries : List EntryMeaning) (pairs : List Pair) (values : List Value) : Type 0 where
   pub valid : Each (λ pair. IsValid order pair.key) pairs
   pub ascend : Ascend order (map key_bytes pairs)

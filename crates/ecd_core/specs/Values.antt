@@ -1,6 +1,7 @@
--- Which value an item has under a shape: RFC 8610, sections 2 and 3.
-use Rattle.std.specs.Prelude.{Bool, ◌≡◌, ℕ, zero, suc, ◌<◌, ◌≤◌, ◌^◌, ◌⊎◌, ◌==◌, nat_lt, if◌then◌else◌, List, [], ◌∷◌, ◌++◌, length, map, Option, Some, None}
-use Rattle.std.specs.Str.{IsUtf8}
+-- Which value an item has under a shape, in the sense of RFC 8610, sections 2 and 3. This project's own are the bound on the depth of Any and AnyOf, the
+-- deterministic encoding inside a Cbor, and the matching of maps.
+use Rattle.std.specs.Prelude.{Bool, ◌≡◌, ℕ, zero, suc, ◌<◌, ◌≤◌, ◌^◌, ◌⊎◌, ◌==◌, ◌&&◌, ◌||◌, nat_lt, nat_le, if◌then◌else◌, List, [], ◌∷◌, ◌++◌, length, map, Option, Some, None}
+use Rattle.std.specs.Str.{IsUtf8, is_utf8}
 use Rattle.ecd_keyorder.specs.declared.Order.{Order}
 use Rattle.ecd_item.specs.declared.item.Item.{Item, Array' as Array-i, Map' as Map-i, Tag' as Tag-i}
 use Rattle.ecd_item.specs.declared.item.Item.TheVariants as i
@@ -18,7 +19,7 @@ use Rattle.ecd_core.specs.declared.shape.Pick.{Pick, Pick', Row_of-MapWay, end_o
 use Rattle.ecd_core.specs.declared.value.Value.{Value}
 use Rattle.ecd_core.specs.declared.value.Value.TheVariants as v
 use Rattle.ecd_core.specs.Lists.{Each}
-use Rattle.ecd_core.specs.Maps.{ItemValues, FieldMeaning, EntryMeaning, IsField, IsPick, IsTable, MapHas}
+use Rattle.ecd_core.specs.Maps.{ItemValues, FieldMeaning, EntryMeaning, AField, APick, ATable, MapHas}
 
 -- ---- words
 
@@ -34,10 +35,6 @@ numbered lo hi n = if lo == hi then v.Unit else v.Number n
 abbrev pub IsArgument : ℕ → ℕ → ℕ → Type 0
 IsArgument lo hi n = (n < 2 ^ 64) × IsWithin lo hi n
 
--- A simple value's number (RFC 8949, section 3.3).
-abbrev pub IsSimple : ℕ → Type 0
-IsSimple n = (n < 24) ⊎ ((32 ≤ n) × (n < 256))
-
 -- The major type of an item (RFC 8949, section 3.1).
 abbrev pub major_of : Item → ℕ
 major_of (i.Uint n) = 0
@@ -49,15 +46,20 @@ major_of (Map-i _ pairs) = 5
 major_of (Tag-i n _ inner) = 6
 major_of (i.Simple n) = 7
 
--- The one item of a key's shape, where the shape is a literal.
+-- An item, where it is one.
+abbrev pub literal : Bool → Item → Option Item
+literal holds item = if holds then Some item else None
+
+-- The one item of a key's shape, where the shape is a literal that holds it: an argument has 64 bits, a text is UTF-8, and a simple value is 0 to 23 or
+-- 32 to 255 (RFC 8949, sections 3, 3.1 and 3.3).
 abbrev pub key_of : Kind → Option Item
-key_of (k.Uint lo hi) = if lo == hi then Some (i.Uint lo) else None
-key_of (k.Nint lo hi) = if lo == hi then Some (i.Nint lo) else None
+key_of (k.Uint lo hi) = literal ((lo == hi) && nat_lt lo (2 ^ 64)) (i.Uint lo)
+key_of (k.Nint lo hi) = literal ((lo == hi) && nat_lt lo (2 ^ 64)) (i.Nint lo)
 key_of (k.Bytes lo hi) = None
 key_of (k.Text lo hi) = None
 key_of (k.BytesIs bytes) = Some (i.Bytes bytes)
-key_of (k.TextIs bytes) = Some (i.Text bytes)
-key_of (k.Simple n) = Some (i.Simple n)
+key_of (k.TextIs bytes) = literal (is_utf8 bytes) (i.Text bytes)
+key_of (k.Simple n) = literal (nat_lt n 24 || (nat_le 32 n && nat_lt n 256)) (i.Simple n)
 key_of (Tag' n _ inner) = None
 key_of (AnyTag' _ inner) = None
 key_of (k.Any depth) = None
@@ -95,7 +97,7 @@ unfoldable mutual
   Gives order (k.Text lo hi) item value = (bytes : List ℕ) × (item ≡ i.Text bytes) × IsUtf8 bytes × IsWithin lo hi (length bytes) × (value ≡ v.Bytes bytes)
   Gives order (k.BytesIs bytes) item value = (item ≡ i.Bytes bytes) × (value ≡ v.Unit)
   Gives order (k.TextIs bytes) item value = (item ≡ i.Text bytes) × IsUtf8 bytes × (value ≡ v.Unit)
-  Gives order (k.Simple n) item value = (item ≡ i.Simple n) × IsSimple n × (value ≡ v.Unit)
+  Gives order (k.Simple n) item value = (item ≡ i.Simple n) × IsValid order item × (value ≡ v.Unit)
   Gives order (Tag' n _ inner) item value = (content : Item) × (item ≡ i.Tag n content) × (n < 2 ^ 64) × OnlyGives order inner content value
   Gives order (AnyTag' _ inner) item value =
       (n : ℕ) × (content : Item) × (one : Value) × (item ≡ i.Tag n content) × (n < 2 ^ 64) × (value ≡ v.Tagged n one) × OnlyGives order inner content one
@@ -144,12 +146,12 @@ unfoldable mutual
   meanings order (more_of-MapEntry entry rest) = meaning order entry ∷ meanings order rest
 
   pub meaning : Order → MapEntry → EntryMeaning
-  meaning order (Field' at _ key cut lo _ kind) = IsField (field_from (key_of key) cut lo (Gives order kind))
+  meaning order (Field' at _ key cut lo _ kind) = AField (field_from (key_of key) cut lo (Gives order kind))
   meaning order (m.Pick pick) = pick_meaning order pick
-  meaning order (Table' at lo hi _ key _ kind) = IsTable lo hi (Gives order key) (Gives order kind)
+  meaning order (Table' at lo hi _ key _ kind) = ATable lo hi (Gives order key) (Gives order kind)
 
   pub pick_meaning : Order → Pick → EntryMeaning
-  pick_meaning order (Pick' at needed _ ways) = IsPick needed (way_meanings order ways)
+  pick_meaning order (Pick' at needed _ ways) = APick needed (way_meanings order ways)
 
   pub way_meanings : {m : _} → Order → Row_of-MapWay m → List (List FieldMeaning)
   way_meanings order end_of-MapWay = []

@@ -1,4 +1,5 @@
-//! What a schema means: shapes, values, and which value an item has under a shape (RFC 8610).
+//! What a schema means: shapes, values, and which value an item has under a shape, in the sense of RFC 8610. The matching of a map's pairs with its entries is
+//! this project's own.
 #![tactic(auto)]
 
 pub mod laws;

@@ -49,15 +49,16 @@ pub enum Kind {
     Simple(u8),
     /// A tag of this number, and what it encloses (RFC 8610, section 3.6).
     Tag(u64, Boxed<Shape>),
-    /// A tag of any number, and what it encloses.
+    /// A tag of any number, and what it encloses (RFC 8610, section 3.6, where the number is left out).
     AnyTag(Boxed<Shape>),
-    /// Any item that nests at most this deep (RFC 8610, section 2.2.3).
+    /// Any item without floats that nests at most this deep (RFC 8610, section 2.2.3, which has floats and no bound on the depth).
     Any { depth: u8 },
-    /// Any item of this major type that nests at most this deep.
+    /// Such an item of this major type (RFC 8610, section 2.2.3).
     AnyOf { major: u8, depth: u8 },
-    /// A byte string that is the encoding of an item of this shape (RFC 8610, section 3.8.4).
+    /// A byte string that is the deterministic encoding of an item of this shape, whose depth counts from 0 again (RFC 8610, section 3.8.4, which does not ask
+    /// for the deterministic encoding).
     Cbor(Boxed<Shape>),
-    /// One of these, which may be none (RFC 8610, section 2.2.2).
+    /// One of these (RFC 8610, section 2.2.2). There may be none, and then no item has a value.
     Choice(ShapeList),
     /// An array (RFC 8610, section 3.4).
     Array(Group),
@@ -91,14 +92,14 @@ pub enum Part {
         hi: u64,
         body: Group,
     },
-    /// One of these ways, which may be none (RFC 8610, section 2.2.2).
+    /// One of these ways (RFC 8610, section 2.2.2). There may be none, and then no items have a value.
     Alt {
         at: u32,
         ways: WayList,
     },
 }
 
-/// A way of a choice of groups.
+/// A way of a choice of groups (RFC 8610, section 2.2.2).
 #[cycle(shape)]
 #[derive(Debug, Drop)]
 pub struct Way {
@@ -126,9 +127,10 @@ pub enum MapEntry {
 pub struct Field {
     /// Where it stands in the schema.
     pub at: u32,
-    /// The shape of the key, which holds one item.
+    /// The shape of the key. A field whose key is no literal fits no map.
     pub key: Shape,
-    /// Whether a pair with this key may go to no table where its value is not of the field's shape (RFC 8610, section 3.5.4).
+    /// Whether a pair with this key that no field takes and whose value is not of the field's shape may go to no table, where the field is tried (RFC 8610,
+    /// section 3.5.4).
     pub cut: bool,
     /// The lower bound: a field with 0 may be absent, every other one is needed (RFC 8610, section 3.2).
     pub lo: u64,
@@ -148,7 +150,7 @@ pub struct Pick {
     pub ways: MapWayList,
 }
 
-/// A way of a pick.
+/// A way of a pick (RFC 8610, section 2.2.2).
 #[cycle(shape)]
 #[derive(Debug, Drop)]
 pub struct MapWay {

@@ -1,13 +1,15 @@
 //! Shapes that are made of no others.
 
 ghost use Rattle.std.specs.Prelude.{◌≡◌, ◌↔◌, IsTrue, length};
-ghost use Rattle.std.specs.Str.{IsUtf8};
+ghost use Rattle.std.specs.Str.{IsUtf8, is_utf8};
 ghost use Rattle.std.specs.Option.{option_copied};
+ghost use Rattle.ecd_item.specs.Valid.{IsValid};
+ghost use Rattle.ecd_item.specs.declared.item.Item.TheVariants.{Simple as SimpleItem};
 ghost use Rattle.ecd_keyorder.specs.declared.Order.TheVariants.{Bytewise};
 ghost use Rattle.ecd_core.specs.declared.value.Value.TheVariants.{Bytes as BytesValue, Number as NumberValue, Unit as UnitValue};
 ghost use Rattle.ecd_core.specs.declared.shape.Kind.TheVariants.{Uint as UintKind, Nint as NintKind, Bytes as BytesKind, Text as TextKind, BytesIs as BytesIsKind, TextIs as TextIsKind, Simple as SimpleKind};
 ghost use Rattle.ecd_core.specs.Asked.{Asked};
-ghost use Rattle.ecd_core.specs.Values.{Gives, IsArgument, IsSimple, IsWithin, numbered};
+ghost use Rattle.ecd_core.specs.Values.{Gives, IsArgument, IsWithin, numbered};
 
 use crate::value::Value;
 use ecd_item::Item;
@@ -81,15 +83,17 @@ fn literal_fits(literal: &[u8], bytes: &[u8], value: Option<&Value>) -> bool
 }
 
 /// Whether the bytes are UTF-8.
-fn is_text(bytes: &[u8]) -> bool
-    ensures { IsTrue result ↔ IsUtf8 bytes.now }
+pub(crate) fn is_text(bytes: &[u8]) -> bool
+    ensures holds { IsTrue result ↔ IsUtf8 bytes.now }
+    ensures test { result ≡ is_utf8 bytes.now }
 {
     str::from_utf8(bytes).is_ok()
 }
 
 /// Whether a simple value may have this number.
+#[tactic(auto, unfolding(ecd_item::specs::Valid::IsValid))]
 fn is_simple(number: u8) -> bool
-    ensures { IsTrue result ↔ IsSimple number }
+    ensures { IsTrue result ↔ IsValid Bytewise (SimpleItem number) }
 {
     number < 24 || 32 <= number
 }
