@@ -8,3 +8,6 @@ pub mod ValueLayers
 pub mod Telling
 pub mod Contents
 pub mod Fits
+pub mod MapFits
+pub mod Keys
+pub mod MapWhole

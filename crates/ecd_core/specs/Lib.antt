@@ -6,4 +6,5 @@ pub mod Nodes
 pub mod Walks
 pub mod Asked
 pub mod Splits
+pub mod Owners
 pub mod Laws

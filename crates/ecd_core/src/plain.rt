@@ -9,6 +9,8 @@ mod atoms;
 mod encodings;
 mod fitting;
 mod forms;
+mod keys;
+mod pairs;
 mod lists;
 
 use crate::plain::fitting::fits;

@@ -22,6 +22,7 @@ use crate::plain::forms::{
     bytes_in, group_in, is_absent, items_in, many_in, present_in, tag_in, tagged_in, way_group_in,
     way_in,
 };
+use crate::plain::pairs::map_fits;
 use crate::plain::lists::{fewer, first_of, is_empty, is_within};
 use crate::shape::{Kind, Part, Shape, Way};
 use crate::value::Value;
@@ -56,7 +57,7 @@ pub(crate) fn fits(
         Kind::Cbor(inner) => cbor_fits(alloc, left, inner.get(), item, value),
         Kind::Choice(shapes) => choice_fits(alloc, left, shapes.as_slice(), item, value),
         Kind::Array(group) => array_fits(alloc, left, group.parts.as_slice(), item, value),
-        Kind::Map(_) => Err(OutOfMemory),
+        Kind::Map(entries) => map_fits(alloc, left, entries.as_slice(), item, value),
     }
 }
 

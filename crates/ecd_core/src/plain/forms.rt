@@ -1,12 +1,13 @@
 //! What items and values are made of.
 
-ghost use Rattle.std.specs.Prelude.{◌≡◌, ◌<◌, ◌^◌, ℕ, List, MatchOption, IsTrue, ◌↔◌};
+ghost use Rattle.std.specs.Prelude.{◌≡◌, ◌<◌, ◌^◌, ℕ, List, MatchOption, IsTrue, ◌↔◌, [], ◌∷◌};
 ghost use Rattle.ecd_item.specs.declared.item.Item.{Item as AnItem};
 ghost use Rattle.ecd_item.specs.declared.item.Item.TheVariants.{Array as ArrayItem, Bytes as BytesItem, Map as MapItem, Tag as TagItem};
 ghost use Rattle.ecd_item.specs.declared.item.Pair.{Pair as APair};
 ghost use Rattle.ecd_core.specs.declared.value.Value.{Value as AValue};
 ghost use Rattle.ecd_core.specs.declared.value.Value.TheVariants.{Absent as AbsentValue, Group as GroupValue, Many as ManyValue, Present as PresentValue, Tagged as TaggedValue, Way as WayValue};
 
+use crate::plain::lists::{first_of, is_empty};
 use crate::value::Value;
 use ecd_item::{Item, Pair};
 
@@ -121,4 +122,23 @@ pub(crate) fn is_absent(value: &Value) -> bool
         Value::Absent => true,
         _ => false,
     }
+}
+
+/// The two values of a group of two.
+pub(crate) fn both_in(value: &Value) -> Option<(&Value, &Value)>
+    ensures { MatchOption result ((one other : AValue) → value.now ≡ GroupValue (one ∷ other ∷ []) → ⊥) (λ both. value.now ≡ GroupValue (both.0.now ∷ both.1.now ∷ [])) }
+{
+    let Some(values) = group_in(value) else {
+        return None;
+    };
+    let Some((one, behind)) = first_of(values) else {
+        return None;
+    };
+    let Some((other, rest)) = first_of(behind) else {
+        return None;
+    };
+    if !is_empty(rest) {
+        return None;
+    }
+    Some((one, other))
 }
