@@ -1,0 +1,13 @@
+pub mod Ascending
+pub mod MapLaw
+pub mod OneItem
+pub mod Layers
+pub mod WalkLayers
+pub mod WalkLaws
+pub mod ValueLayers
+pub mod Telling
+pub mod Contents
+pub mod Fits
+pub mod MapFits
+pub mod Keys
+pub mod MapWhole

@@ -1,0 +1,14 @@
+use Rattle.std.specs.Option.{option_copied}
+use Rattle.std.proofs.Common.{◌≡◌, ap, sym, ◌∙◌}
+use Rattle.ecd_keyorder.specs.declared.Order.TheVariants.{Bytewise}
+use Rattle.ecd_item.specs.Encoding.{encoding}
+use Rattle.ecd_core.proofs.plain.encodings.any_fits.Goals as goal
+use Rattle.ecd_core.proofs.Telling.{tells_any, no_any, no_true}
+
+pub returns-then-not-branch : goal.returns-then-not-branch
+returns-then-not-branch c = no_any Bytewise c.args.item.now (option_copied c.args.value) c.args.depth (λ whole. no_true (sym c.if-not-branch.true ∙ c.in_ok-is_whole.ensures.tells.1 whole))
+
+pub returns : goal.returns
+returns c =
+    let e : c.as_slice.result.now ≡ encoding c.args.item.now = cc (c.as_slice.ensures.value, c.in_ok-bytes.ensures) in
+    tells_any Bytewise c.args.item.now (option_copied c.args.value) c.args.depth c.as_slice.result.now (c.in_ok-is_whole.ensures.tells.0 c.if-not-branch.false) e c.is_bytes.ensures

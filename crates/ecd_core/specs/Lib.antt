@@ -1,0 +1,10 @@
+pub mod Lists
+pub mod Maps
+pub mod Values
+pub mod Listed
+pub mod Nodes
+pub mod Walks
+pub mod Asked
+pub mod Splits
+pub mod Owners
+pub mod Laws

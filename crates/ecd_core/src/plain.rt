@@ -1,0 +1,52 @@
+//! A plain, slow program that decides what the definitions say. Tests run it over tables of rows; no other crate calls it.
+
+ghost use Rattle.ecd_core.specs.declared.value.Value.{Value as AValue};
+ghost use Rattle.ecd_keyorder.specs.declared.Order.TheVariants.{Bytewise};
+ghost use Rattle.ecd_core.specs.Asked.{Tells};
+ghost use Rattle.ecd_core.specs.Values.{HasValue};
+
+mod atoms;
+mod encodings;
+mod fitting;
+mod forms;
+mod keys;
+mod pairs;
+mod lists;
+
+use crate::plain::fitting::fits;
+use crate::shape::Shape;
+use crate::value::Value;
+use ecd_item::Item;
+use ecd_list::OutOfMemory;
+use std::alloc::Global;
+
+/// How deep calls may nest.
+const MOST_CALLS: u32 = 1_000_000;
+
+/// Whether the item has the value under the shape.
+///
+/// # Errors
+///
+/// `OutOfMemory` also where calls nest too deep, and where a string or a key is too deep to be judged: an item of more than 64 levels, or bytes in a byte string
+/// that are more than 64 and not read within 64 levels.
+pub fn has_value(
+    alloc: Global,
+    shape: &Shape,
+    item: &Item,
+    value: &Value,
+) -> Result<bool, OutOfMemory>
+    ensures { Tells result (HasValue Bytewise shape.now item.now value.now) }
+{
+    fits(alloc, MOST_CALLS, shape, item, Some(value))
+}
+
+/// Whether the item has some value under the shape.
+///
+/// # Errors
+///
+/// `OutOfMemory`, as for `has_value`.
+pub fn holds(alloc: Global, shape: &Shape, item: &Item) -> Result<bool, OutOfMemory>
+    ensures { Tells result ((value : AValue) × HasValue Bytewise shape.now item.now value) }
+{
+    fits(alloc, MOST_CALLS, shape, item, None)
+}
