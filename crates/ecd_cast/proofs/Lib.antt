@@ -20,3 +20,4 @@ pub mod Rules
 pub mod Loops
 pub mod Frame
 pub mod Shapes
+pub mod Active

@@ -16,3 +16,4 @@ pub mod Ends
 pub mod Kept
 pub mod Rules
 pub mod Laws
+pub mod Fitting
