@@ -21,3 +21,5 @@ pub mod Loops
 pub mod Frame
 pub mod Shapes
 pub mod Active
+pub mod Sound
+pub mod Places
