@@ -23,3 +23,4 @@ pub mod Shapes
 pub mod Active
 pub mod Sound
 pub mod Places
+pub mod SoundScopes
