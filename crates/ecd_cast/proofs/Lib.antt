@@ -24,3 +24,4 @@ pub mod Active
 pub mod Sound
 pub mod Places
 pub mod SoundScopes
+pub mod SoundRuns

@@ -133,7 +133,7 @@ found_kind NumberCell = refl
 found_kind PointerCell = refl
 
 -- the cell of a name, and whether it may hold something
-abbrev MayHoldAt : Memory → Option Kind → Cell → Type 0
+abbrev pub MayHoldAt : Memory → Option Kind → Cell → Type 0
 MayHoldAt m (Some ANumber) c = may_hold m NumberCell c ≡ true
 MayHoldAt m (Some AReadPointer) c = may_hold m PointerCell c ≡ true
 MayHoldAt m o c = ⊥

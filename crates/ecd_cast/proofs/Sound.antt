@@ -17,15 +17,15 @@ use Rattle.ecd_cast.proofs.Kept.{front_nil, back_nil}
 abbrev pub IsReason : ℕ → Type 0
 IsReason r = (0 < r) × (r < 6)
 
-no_rule : (b : Bool) (r : ℕ) → unless b r ≡ [] → b ≡ true
+pub no_rule : (b : Bool) (r : ℕ) → unless b r ≡ [] → b ≡ true
 no_rule true r e = refl
 no_rule false r e = absurd cc
 
-and_first : (a b : Bool) → (a && b) ≡ true → a ≡ true
+pub and_first : (a b : Bool) → (a && b) ≡ true → a ≡ true
 and_first true b e = refl
 and_first false b e = absurd cc
 
-and_second : (a b : Bool) → (a && b) ≡ true → b ≡ true
+pub and_second : (a b : Bool) → (a && b) ≡ true → b ≡ true
 and_second true b e = e
 and_second false b e = absurd cc
 
