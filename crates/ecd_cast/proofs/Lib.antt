@@ -25,3 +25,4 @@ pub mod Sound
 pub mod Places
 pub mod SoundScopes
 pub mod SoundRuns
+pub mod SoundStmts

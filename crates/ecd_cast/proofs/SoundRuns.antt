@@ -25,7 +25,7 @@ use Rattle.ecd_cast.proofs.Sound.{IsReason, no_rule, and_first, and_second, HasK
 use Rattle.ecd_cast.proofs.Places.{after_place, blocks_same, block_at, BlockAt, set_block, with_cell_kept, cells_sound, MayHoldAt}
 use Rattle.ecd_cast.proofs.SoundScopes.{flatten, AllFit, FrameFits, lookup_fits, kind_after, fits_after, declared_fits, assigned_fits, IsKinded, Safe, safe_then, safe_end, byte_safe}
 
-no_fault : (p : Place) (rules : List ℕ) → at_place p rules ≡ [] → rules ≡ []
+pub no_fault : (p : Place) (rules : List ℕ) → at_place p rules ≡ [] → rules ≡ []
 no_fault p [] e = refl
 no_fault p (r ∷ rs) e = absurd cc
 
@@ -36,7 +36,7 @@ Agrees S St = (n : ℕ) (d : StructDecl) (s c : Name) → slice_get S n ≡ Some
 module _ (S : List StructDecl) (kinds : List BlockKind) where
   -- ---- kinds that are taken
 
-  kind_taken : (m : Memory) (k k' : Kind) (v : Value) → takes k k' ≡ true → HasKind S kinds m k' v → (k ≡ Unknown → ⊥) → HasKind S kinds m k v
+  pub kind_taken : (m : Memory) (k k' : Kind) (v : Value) → takes k k' ≡ true → HasKind S kinds m k' v → (k ≡ Unknown → ⊥) → HasKind S kinds m k v
   kind_taken m ANumber k' v t h u = number_then S kinds m k' (HasKind S kinds m ANumber) v t h (λ n. tt)
   kind_taken m ATruth k' v t h u = truth_then S kinds m k' (HasKind S kinds m ATruth) v t h (λ b. tt)
   kind_taken m Unknown k' v t h u = absurd (u refl)
@@ -71,7 +71,7 @@ module _ (S : List StructDecl) (kinds : List BlockKind) where
   kind_taken m (AStruct s) Unknown (Ptr b o) t h u = absurd h
   kind_taken m (AStruct s) Unknown (Str b) t h u = absurd h
 
-  and_both : (a b : Bool) → a ≡ true → b ≡ true → (a && b) ≡ true
+  pub and_both : (a b : Bool) → a ≡ true → b ≡ true → (a && b) ≡ true
   and_both a b h k = rw (h, k)
 
   param_known : (k : ParamKind) → param_kind k ≡ Unknown → ⊥
@@ -80,7 +80,7 @@ module _ (S : List StructDecl) (kinds : List BlockKind) where
   param_known WritePointerParam e = cc
   param_known (StructParam s) e = cc
 
-  param_of : (m : Memory) (k : ParamKind) (v : Value) → HasKind S kinds m (param_kind k) v → param_takes S kinds m k v ≡ true
+  pub param_of : (m : Memory) (k : ParamKind) (v : Value) → HasKind S kinds m (param_kind k) v → param_takes S kinds m k v ≡ true
   param_of m NumberParam (Num n) h = refl
   param_of m NumberParam (Truth b) h = absurd h
   param_of m NumberParam (Ptr b o) h = absurd h
@@ -111,20 +111,20 @@ module _ (S : List StructDecl) (kinds : List BlockKind) where
   CallKeeps m (Returns n es) = Safe S kinds m es
   CallKeeps m (Stuck r i s es) = Safe S kinds m es × IsReason r
 
-  doing_keeps : (m : Memory) (P : Memory → Scopes → Type 0) (es : List Event) (r : Run) → Safe S kinds m es → Keeps (after es m) P r → Keeps m P (doing es r)
+  pub doing_keeps : (m : Memory) (P : Memory → Scopes → Type 0) (es : List Event) (r : Run) → Safe S kinds m es → Keeps (after es m) P r → Keeps m P (doing es r)
   doing_keeps m P es (Falls env ds) h k = (safe_then S kinds m es ds h k.0, subst (λ (n : Memory). P n env) (sym (after-append es ds m)) k.1)
   doing_keeps m P es (Returns n ds) h k = safe_then S kinds m es ds h k
   doing_keeps m P es (Stuck r i s ds) h k = (safe_then S kinds m es ds h k.0, k.1)
 
-  then_keeps : (m : Memory) (P Q : Memory → Scopes → Type 0) (r : Run) (f : Scopes → Memory → Run) → IsKinded S kinds m → Keeps m P r → ((env : Scopes) (n : Memory) → IsKinded S kinds n → P n env → Keeps n Q (f env n)) → Keeps m Q (and_then r m f)
+  pub then_keeps : (m : Memory) (P Q : Memory → Scopes → Type 0) (r : Run) (f : Scopes → Memory → Run) → IsKinded S kinds m → Keeps m P r → ((env : Scopes) (n : Memory) → IsKinded S kinds n → P n env → Keeps n Q (f env n)) → Keeps m Q (and_then r m f)
   then_keeps m P Q (Falls env es) f w h g = doing_keeps m Q es (f env (after es m)) h.0 (g env (after es m) (safe_end S kinds m es w h.0) h.1)
   then_keeps m P Q (Returns n es) f w h g = h
   then_keeps m P Q (Stuck r i s es) f w h g = h
 
-  step_keeps : (m : Memory) (P : Memory → Scopes → Type 0) (r : Run) → IsKinded S kinds m → Keeps m P r → Keeps m P (doing (Step ∷ []) r)
+  pub step_keeps : (m : Memory) (P : Memory → Scopes → Type 0) (r : Run) → IsKinded S kinds m → Keeps m P r → Keeps m P (doing (Step ∷ []) r)
   step_keeps m P r w h = doing_keeps m P (Step ∷ []) r (w, tt) h
 
-  with_keeps : (m : Memory) (P : Memory → Scopes → Type 0) (p : Place) (k : Kind) (o : Outcome) (f : Value → Run) → IsSound S kinds m k o → ((v : Value) → HasKind S kinds m k v → Keeps m P (f v)) → Keeps m P (with p o f)
+  pub with_keeps : (m : Memory) (P : Memory → Scopes → Type 0) (p : Place) (k : Kind) (o : Outcome) (f : Value → Run) → IsSound S kinds m k o → ((v : Value) → HasKind S kinds m k v → Keeps m P (f v)) → Keeps m P (with p o f)
   with_keeps m P p k (Gives v) f h g = g v h
   with_keeps m P p k (Fails r) f h g = (tt, h)
 
@@ -133,7 +133,7 @@ module _ (S : List StructDecl) (kinds : List BlockKind) where
   module _ (around : Around) (calls : Calls) (agrees : Agrees S around.structs)
       (known_calls : (g : Name) (f : Function) → function_named around.earlier g ≡ Some f → (m : Memory) (vs : List Value) → IsKinded S kinds m → params_take S kinds m f.params vs ≡ true → CallKeeps m (calls g vs m)) where
     -- the cell of a struct
-    struct_at : (m : Memory) (b : ℕ) (s : Name) → IsKinded S kinds m → is_struct S (slice_get kinds b) s ≡ true → (k : Option BlockKind) → slice_get kinds b ≡ k → is_struct S k s ≡ true →
+    pub struct_at : (m : Memory) (b : ℕ) (s : Name) → IsKinded S kinds m → is_struct S (slice_get kinds b) s ≡ true → (k : Option BlockKind) → slice_get kinds b ≡ k → is_struct S k s ≡ true →
         (d : StructDecl) × (cs : List (Name × Cell)) × (n : ℕ) × (slice_get kinds b ≡ Some (CellsOf n)) × (slice_get S n ≡ Some d) × (bytes_eq d.name s ≡ true) × (slice_get m b ≡ Some (Cells cs)) × AreCellsOf m d.cells cs
     struct_at m b s w h None e t = absurd cc
     struct_at m b s w h (Some Fixed) e t = absurd cc
@@ -158,11 +158,11 @@ module _ (S : List StructDecl) (kinds : List BlockKind) where
         subst (λ (o : Option Kind). IsSound S kinds m (or_unknown o) (cell m c (Str b))) (sym same) (subst (λ (o : Option Block). IsSound S kinds m (or_unknown (cell_among at_.0.cells c)) (cell_in o c)) (sym at_.6) sound)
 
     -- an expression, where scopes fit
-    value_sound : (m : Memory) (env : Scopes) (ks : List Known) (e : Expr) → IsKinded S kinds m → AllFit S kinds m env ks → broken_by around.structs (flatten ks) e ≡ [] → IsSound S kinds m (kind_of around.structs (flatten ks) e) (value_of e env m)
+    pub value_sound : (m : Memory) (env : Scopes) (ks : List Known) (e : Expr) → IsKinded S kinds m → AllFit S kinds m env ks → broken_by around.structs (flatten ks) e ≡ [] → IsSound S kinds m (kind_of around.structs (flatten ks) e) (value_of e env m)
     value_sound m env ks e w h k = expr_sound S kinds around.structs (flatten ks) env m (lookup_fits S kinds m env ks h) (cells_read m w) e k
 
     -- one of which a kind is asked
-    asked_keeps : (m : Memory) (env : Scopes) (ks : List Known) (e : Expr) (k : Kind) (p : Place) (P : Memory → Scopes → Type 0) (f : Value → Run) → IsKinded S kinds m → AllFit S kinds m env ks → (k ≡ Unknown → ⊥) → broken_as k around.structs (flatten ks) e ≡ [] →
+    pub asked_keeps : (m : Memory) (env : Scopes) (ks : List Known) (e : Expr) (k : Kind) (p : Place) (P : Memory → Scopes → Type 0) (f : Value → Run) → IsKinded S kinds m → AllFit S kinds m env ks → (k ≡ Unknown → ⊥) → broken_as k around.structs (flatten ks) e ≡ [] →
         ((v : Value) → HasKind S kinds m k v → Keeps m P (f v)) → Keeps m P (with p (value_of e env m) f)
     asked_keeps m env ks e k p P f w h u b g =
         let K = flatten ks in
@@ -196,7 +196,7 @@ module _ (S : List StructDecl) (kinds : List BlockKind) where
     not_later known args None e = cc
 
     -- a value that a number is asked of, or what the kind asks for
-    source_keeps : (m : Memory) (env : Scopes) (ks : List Known) (p : Place) (k : Kind) (s : Source) (P : Memory → Scopes → Type 0) (f : Value → Scopes) → IsKinded S kinds m → AllFit S kinds m env ks → (k ≡ Unknown → ⊥) → source_broken around (flatten ks) k s ≡ [] →
+    pub source_keeps : (m : Memory) (env : Scopes) (ks : List Known) (p : Place) (k : Kind) (s : Source) (P : Memory → Scopes → Type 0) (f : Value → Scopes) → IsKinded S kinds m → AllFit S kinds m env ks → (k ≡ Unknown → ⊥) → source_broken around (flatten ks) k s ≡ [] →
         ((es : List Event) (v : Value) → HasKind S kinds (after es m) k v → P (after es m) (f v)) → Keeps m P (from_source calls p s env m (λ v. fall (f v)))
     source_keeps m env ks p k (FromValue e) P f w h u b g = asked_keeps m env ks e k p P (λ v. fall (f v)) w h u b (λ v hv. (tt, g [] v hv))
     source_keeps m env ks p k (FromCall g args) P f w h u b then_ =
