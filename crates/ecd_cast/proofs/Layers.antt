@@ -1,5 +1,5 @@
 -- The definitions on trees, at each form that has parts, with the parts as they stand in the source.
-use Rattle.std.proofs.Common.{◌≡◌, ◌+◌, List, [], ◌∷◌, ◌++◌, refl, ap, ◌∙◌}
+use Rattle.std.proofs.Common.{◌≡◌, ◌+◌, List, [], ◌∷◌, ◌++◌, refl, ap, ◌∙◌, subst, sym}
 use Rattle.std.specs.Prelude.{codes}
 use Rattle.ecd_cast.specs.declared.tree.Op.{Op}
 use Rattle.ecd_cast.specs.declared.tree.Expr.{Expr}
@@ -13,7 +13,7 @@ use Rattle.ecd_cast.specs.Memory.{Step, Name, Memory}
 use Rattle.ecd_cast.specs.Expressions.{Scopes, lookup, binary, given, with_value, load, negated, value_of}
 use Rattle.ecd_cast.specs.Meaning.{Calls, Place, shifted, does, does_row, block, count_of, count_in, scoped, with, on_truth, on_number, turns, and_then, doing}
 use Rattle.ecd_cast.specs.Laws.{count_all}
-use Rattle.ecd_cast.specs.Spelling.{expr_lexemes, stmt_lexemes, row_lexemes, stmts_lexemes, sign}
+use Rattle.ecd_cast.specs.Spelling.{expr_lexemes, stmt_lexemes, row_lexemes, stmts_lexemes, sign, IsName, IsSpelledExpr, IsSpelledStmt, IsSpelledRow, IsSpelledBlock}
 
 -- ---- expressions
 
@@ -86,5 +86,18 @@ pub lexemes-For : (x b : Name) (body : List Stmt) →
 lexemes-For x b body =
     ap (λ ls. codes "for" ∷ codes "(" ∷ codes "uint64_t" ∷ x ∷ codes "=" ∷ codes "0ull" ∷ codes ";" ∷ x ∷ codes "<" ∷ b ∷ codes ";" ∷ x ∷ codes "+=" ∷ codes "1ull" ∷ codes ")" ∷ codes "{" ∷ (ls ++ codes "}" ∷ []))
     (lexemes-hidden body)
+
+-- ---- trees that have a spelling
+
+pub spelled-Not : (a : Expr) → IsSpelledExpr a → IsSpelledExpr (Not a)
+unfolding exprs.shape-the_row-Expr-0 exprs.hidden-the_row-Expr-0 hidden
+spelled-Not a h = h
+
+spelled-row : {n : _} (r : Row_of-Stmt n) → IsSpelledBlock (items-the_row-Stmt n r) → IsSpelledRow r
+spelled-row end_of-Stmt h = tt
+spelled-row (more_of-Stmt s rest) h = (h.0, spelled-row rest h.1)
+
+pub spelled-For : (x b : Name) (body : List Stmt) → IsName x → IsName b → IsSpelledBlock body → IsSpelledStmt (For x b body)
+spelled-For x b body h k l = (h, k, spelled-row (stmts.hidden-the_row-Stmt-0 body) (subst IsSpelledBlock (sym (items_hidden-the_row-Stmt-0 body)) l))
 
 pub ruleset layers = (value-Binary, value-Load, value-Not)

@@ -20,3 +20,9 @@ pub mod Rules
 pub mod Loops
 pub mod Frame
 pub mod Shapes
+pub mod Active
+pub mod Sound
+pub mod Places
+pub mod SoundScopes
+pub mod SoundRuns
+pub mod SoundStmts

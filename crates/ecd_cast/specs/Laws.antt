@@ -9,11 +9,11 @@ use Rattle.ecd_cast.specs.declared.tree.CItem.{CItem}
 use Rattle.ecd_cast.specs.declared.tree.Program.{Program}
 use Rattle.ecd_cast.specs.Memory.{Name, Memory, Value, Num, Event, Step, Enters, Leaves, WritesByte, WritesCell, after, writes_of, steps_of, first_steps, most_active}
 use Rattle.ecd_cast.specs.Expressions.{Scopes, Frame, lookup, given, Gives}
-use Rattle.ecd_cast.specs.Meaning.{Calls, Place, block, does, called, calls_of, shifted, count_of, frame_of, with_args, declare, leave, Run}
+use Rattle.ecd_cast.specs.Meaning.{Calls, Place, block, does, called, calls_of, shifted, count_of, frame_of, with_args, declare, leave, Run, events_of}
 use Rattle.ecd_cast.specs.Ends.{End, Behind, With, Ends, Does}
 use Rattle.ecd_cast.specs.Rules.{Tells}
 use Rattle.ecd_cast.specs.Kept.{IsNew}
-use Rattle.ecd_cast.specs.Validity.{Fault, IsValid, IsFirstFault, item_faults}
+use Rattle.ecd_cast.specs.Validity.{Fault, IsValid, IsFirstFault, item_faults, call_depth_of}
 
 -- how many statements a list has, those inside counted
 abbrev pub count_all : List Stmt → ℕ
@@ -110,6 +110,10 @@ Spares b (WritesCell k x c ∷ es) = (k ≢ b) × Spares b es
 Spares b (Step ∷ es) = Spares b es
 Spares b (Enters ∷ es) = Spares b es
 Spares b (Leaves ∷ es) = Spares b es
+
+-- never more calls are active in a call than the longest chain of calls has
+abbrev pub ActiveCalls : Type 0
+ActiveCalls = (items : List CItem) (g : Name) (vs : List Value) (m : Memory) → most_active 0 (events_of (calls_of items g vs m)) ≤ call_depth_of items
 
 -- what is written to other blocks leaves a block as it was
 abbrev pub OtherBlocks : Type 0

@@ -1,6 +1,6 @@
 //! Facts about the definitions alone, each the contract of a function that does nothing.
 
-ghost use Rattle.ecd_cast.specs.Laws.{MeaningIsKept, ValidityIsKept, FirstFault, Sequence, SequenceReturns, LoopFalls, LoopReturns, Choice, Call, CallDeclares, Repetition, OtherBlocks, WritesMakeMemory, Steps};
+ghost use Rattle.ecd_cast.specs.Laws.{MeaningIsKept, ValidityIsKept, FirstFault, Sequence, SequenceReturns, LoopFalls, LoopReturns, Choice, Call, CallDeclares, Repetition, OtherBlocks, WritesMakeMemory, ActiveCalls, Steps};
 
 /// Items behind a function change nothing of what it does, and nothing of an item's validity.
 pub fn items_behind()
@@ -45,6 +45,11 @@ pub fn loops()
 pub fn memory()
     ensures writes { WritesMakeMemory }
     ensures others { OtherBlocks }
+{}
+
+/// Never more calls are active in a call than the longest chain of calls has.
+pub fn active_calls()
+    ensures { ActiveCalls }
 {}
 
 /// The first steps of a run.

@@ -66,11 +66,10 @@ fn repeat(alloc: Global, text: &[u8], inside: Stmt) -> Result<Stmt, OutOfMemory>
     requires inside { IsSpelledStmt inside }
     ensures { IfOk result (λ s. IsSpelledStmt s) }
 {
-    Ok(Stmt::For {
-        name: name(alloc, text)?,
-        bound: name(alloc, b"len")?,
-        body: one(alloc, inside)?,
-    })
+    let body = one(alloc, inside)?;
+    let bound = name(alloc, b"len")?;
+    let name = name(alloc, text)?;
+    Ok(Stmt::For { name, bound, body })
 }
 
 /// `return 1ull;`
@@ -282,13 +281,21 @@ fn an_earlier_item_is_named_before_a_lesser_rule(rt: HostRuntime) -> Result<(), 
     Ok(())
 }
 
+/// `(!operand)`
+fn negation(alloc: Global, operand: Expr) -> Result<Expr, OutOfMemory>
+    requires { IsSpelledExpr operand }
+    ensures { IfOk result (λ e. IsSpelledExpr e) }
+{
+    Ok(Expr::Not(Boxed::new(alloc, operand)?))
+}
+
 /// `(!(!( .. 1ull .. )))`
 fn negations(alloc: Global, count: u32) -> Result<Expr, OutOfMemory>
     ensures { IfOk result (λ e. IsSpelledExpr e) }
 {
     let mut expr = Expr::Number(1);
     for _ in 0..count {
-        expr = Expr::Not(Boxed::new(alloc, expr)?);
+        expr = negation(alloc, expr)?;
     }
     Ok(expr)
 }

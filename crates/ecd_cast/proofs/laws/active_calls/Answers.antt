@@ -1,0 +1,6 @@
+use Rattle.ecd_cast.proofs.Active.{active_calls}
+use Rattle.ecd_cast.proofs.SoundStmts.{block_keeps}
+use Rattle.ecd_cast.proofs.laws.active_calls.Goals as goal
+
+pub returns : goal.returns
+returns c = active_calls
