@@ -10,8 +10,8 @@ mod encodings;
 mod fitting;
 mod forms;
 mod keys;
-mod pairs;
 mod lists;
+mod pairs;
 
 use crate::plain::fitting::fits;
 use crate::shape::Shape;
