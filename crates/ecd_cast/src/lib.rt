@@ -15,12 +15,11 @@ mod judge_source;
 mod judge_stmt;
 mod kind;
 pub mod laws;
+#[cfg(test)]
+mod rules_tests;
 pub mod tree;
 pub mod validate;
 pub mod value;
-
-#[cfg(test)]
-mod rules_tests;
 
 #[cfg(test)]
 mod tests {

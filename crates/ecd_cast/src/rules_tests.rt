@@ -5,7 +5,10 @@ ghost use Rattle.ecd_cast.specs.Spelling.{IsName, IsSpelledExpr, IsSpelledSource
 
 use crate::build::{name, one, var};
 use crate::fault::CFault;
-use crate::tree::{CItem, CItemList, CellInfo, CellKind, Expr, ExprList, Function, Param, ParamKind, ParamList, Program, Source, Stmt, StmtList, StructDecl};
+use crate::tree::{
+    CItem, CItemList, CellInfo, CellKind, Expr, ExprList, Function, Param, ParamKind, ParamList,
+    Program, Source, Stmt, StmtList, StructDecl,
+};
 use crate::validate::validate;
 use ecd_list::{Boxed, OutOfMemory};
 use std::alloc::Global;
@@ -80,12 +83,7 @@ fn done() -> Stmt
 }
 
 /// `uint64_t text(const uint8_t *buf, uint64_t len) { first second }`
-fn function(
-    alloc: Global,
-    text: &[u8],
-    first: Stmt,
-    second: Stmt,
-) -> Result<CItem, OutOfMemory>
+fn function(alloc: Global, text: &[u8], first: Stmt, second: Stmt) -> Result<CItem, OutOfMemory>
     requires name { IsName text.now }
     requires first { IsSpelledStmt first }
     requires second { IsSpelledStmt second }
@@ -137,15 +135,33 @@ fn a_variable_that_is_not_known_breaks_c1(rt: HostRuntime) -> Result<(), Fail> {
     let alloc = rt.alloc();
     let use_ = declare(alloc, b"n", variable(alloc, b"m")?)?;
     let fault = fault_of(alloc, use_, done())?;
-    assert!(rt; fault == Some(CFault::Rule { rule: 1, item: 0, statement: 1 }));
+    assert!(rt;
+        fault
+            == Some(CFault::Rule {
+                rule: 1,
+                item: 0,
+                statement: 1
+            })
+    );
     Ok(())
 }
 
 #[test]
 fn a_pointer_in_place_of_a_number_breaks_c2(rt: HostRuntime) -> Result<(), Fail> {
     let alloc = rt.alloc();
-    let fault = fault_of(alloc, declare(alloc, b"n", Expr::Number(1))?, Stmt::Return(variable(alloc, b"buf")?))?;
-    assert!(rt; fault == Some(CFault::Rule { rule: 2, item: 0, statement: 2 }));
+    let fault = fault_of(
+        alloc,
+        declare(alloc, b"n", Expr::Number(1))?,
+        Stmt::Return(variable(alloc, b"buf")?),
+    )?;
+    assert!(rt;
+        fault
+            == Some(CFault::Rule {
+                rule: 2,
+                item: 0,
+                statement: 2
+            })
+    );
     Ok(())
 }
 
@@ -153,7 +169,14 @@ fn a_pointer_in_place_of_a_number_breaks_c2(rt: HostRuntime) -> Result<(), Fail>
 fn a_function_that_calls_itself_breaks_c3(rt: HostRuntime) -> Result<(), Fail> {
     let alloc = rt.alloc();
     let fault = fault_of(alloc, declare_call(alloc, b"n", b"f")?, done())?;
-    assert!(rt; fault == Some(CFault::Rule { rule: 3, item: 0, statement: 1 }));
+    assert!(rt;
+        fault
+            == Some(CFault::Rule {
+                rule: 3,
+                item: 0,
+                statement: 1
+            })
+    );
     Ok(())
 }
 
@@ -161,7 +184,14 @@ fn a_function_that_calls_itself_breaks_c3(rt: HostRuntime) -> Result<(), Fail> {
 fn a_bound_that_is_assigned_in_its_loop_breaks_c4(rt: HostRuntime) -> Result<(), Fail> {
     let alloc = rt.alloc();
     let fault = fault_of(alloc, repeat(alloc, b"i", clear(alloc, b"len")?)?, done())?;
-    assert!(rt; fault == Some(CFault::Rule { rule: 4, item: 0, statement: 2 }));
+    assert!(rt;
+        fault
+            == Some(CFault::Rule {
+                rule: 4,
+                item: 0,
+                statement: 2
+            })
+    );
     Ok(())
 }
 
@@ -169,7 +199,14 @@ fn a_bound_that_is_assigned_in_its_loop_breaks_c4(rt: HostRuntime) -> Result<(),
 fn a_function_without_a_return_breaks_c5(rt: HostRuntime) -> Result<(), Fail> {
     let alloc = rt.alloc();
     let fault = fault_of(alloc, clear(alloc, b"m")?, clear(alloc, b"len")?)?;
-    assert!(rt; fault == Some(CFault::Rule { rule: 5, item: 0, statement: 0 }));
+    assert!(rt;
+        fault
+            == Some(CFault::Rule {
+                rule: 5,
+                item: 0,
+                statement: 0
+            })
+    );
     Ok(())
 }
 
@@ -177,7 +214,14 @@ fn a_function_without_a_return_breaks_c5(rt: HostRuntime) -> Result<(), Fail> {
 fn a_variable_with_the_name_of_a_parameter_breaks_c6(rt: HostRuntime) -> Result<(), Fail> {
     let alloc = rt.alloc();
     let fault = fault_of(alloc, declare(alloc, b"len", Expr::Number(1))?, done())?;
-    assert!(rt; fault == Some(CFault::Rule { rule: 6, item: 0, statement: 1 }));
+    assert!(rt;
+        fault
+            == Some(CFault::Rule {
+                rule: 6,
+                item: 0,
+                statement: 1
+            })
+    );
     Ok(())
 }
 
@@ -186,7 +230,14 @@ fn a_wrong_depth_breaks_c7(rt: HostRuntime) -> Result<(), Fail> {
     let alloc = rt.alloc();
     let item = function(alloc, b"f", declare(alloc, b"n", Expr::Number(1))?, done())?;
     let fault = validate(alloc, program(alloc, 2, item)?).err();
-    assert!(rt; fault == Some(CFault::Rule { rule: 7, item: 0, statement: 0 }));
+    assert!(rt;
+        fault
+            == Some(CFault::Rule {
+                rule: 7,
+                item: 0,
+                statement: 0
+            })
+    );
     Ok(())
 }
 
@@ -230,7 +281,15 @@ fn cells(alloc: Global) -> Result<CItem, OutOfMemory>
 }
 
 /// A program of five items.
-fn five(alloc: Global, depth: u32, a: CItem, b: CItem, c: CItem, d: CItem, e: CItem) -> Result<Program, OutOfMemory>
+fn five(
+    alloc: Global,
+    depth: u32,
+    a: CItem,
+    b: CItem,
+    c: CItem,
+    d: CItem,
+    e: CItem,
+) -> Result<Program, OutOfMemory>
     requires first { IsSpelledItem a }
     requires second { IsSpelledItem b }
     requires third { IsSpelledItem c }
@@ -250,11 +309,29 @@ fn five(alloc: Global, depth: u32, a: CItem, b: CItem, c: CItem, d: CItem, e: CI
 #[test]
 fn a_valid_program_has_its_depth_its_spaces_and_its_functions(rt: HostRuntime) -> Result<(), Fail> {
     let alloc = rt.alloc();
-    let inner = function(alloc, b"inner", declare(alloc, b"n", Expr::Number(1))?, done())?;
-    let middle = function(alloc, b"middle", declare_call(alloc, b"n", b"inner")?, done())?;
-    let outer = function(alloc, b"outer", declare_call(alloc, b"n", b"middle")?, done())?;
+    let inner = function(
+        alloc,
+        b"inner",
+        declare(alloc, b"n", Expr::Number(1))?,
+        done(),
+    )?;
+    let middle = function(
+        alloc,
+        b"middle",
+        declare_call(alloc, b"n", b"inner")?,
+        done(),
+    )?;
+    let outer = function(
+        alloc,
+        b"outer",
+        declare_call(alloc, b"n", b"middle")?,
+        done(),
+    )?;
     let read = reader(alloc, b"read")?;
-    let judged = validate(alloc, five(alloc, 3, cells(alloc)?, inner, middle, read, outer)?);
+    let judged = validate(
+        alloc,
+        five(alloc, 3, cells(alloc)?, inner, middle, read, outer)?,
+    );
     assert!(rt; judged.is_ok());
     if let Ok(valid) = judged {
         assert!(rt; valid.call_depth() == 3);
@@ -272,12 +349,28 @@ fn a_valid_program_has_its_depth_its_spaces_and_its_functions(rt: HostRuntime) -
 #[test]
 fn an_earlier_item_is_named_before_a_lesser_rule(rt: HostRuntime) -> Result<(), Fail> {
     let alloc = rt.alloc();
-    let late = function(alloc, b"late", declare(alloc, b"n", variable(alloc, b"m")?)?, done())?;
+    let late = function(
+        alloc,
+        b"late",
+        declare(alloc, b"n", variable(alloc, b"m")?)?,
+        done(),
+    )?;
     let early = function(alloc, b"early", declare_call(alloc, b"n", b"late")?, done())?;
     let read = reader(alloc, b"read")?;
     let twin = reader(alloc, b"read")?;
-    let fault = validate(alloc, five(alloc, 9, cells(alloc)?, read, early, late, twin)?).err();
-    assert!(rt; fault == Some(CFault::Rule { rule: 3, item: 2, statement: 1 }));
+    let fault = validate(
+        alloc,
+        five(alloc, 9, cells(alloc)?, read, early, late, twin)?,
+    )
+    .err();
+    assert!(rt;
+        fault
+            == Some(CFault::Rule {
+                rule: 3,
+                item: 2,
+                statement: 1
+            })
+    );
     Ok(())
 }
 
@@ -303,10 +396,20 @@ fn negations(alloc: Global, count: u32) -> Result<Expr, OutOfMemory>
 #[test]
 fn expressions_beyond_a_thousand_levels_are_too_deep(rt: HostRuntime) -> Result<(), Fail> {
     let alloc = rt.alloc();
-    let deep = fault_of(alloc, declare(alloc, b"n", negations(alloc, 1_000)?)?, done())?;
+    let deep = fault_of(
+        alloc,
+        declare(alloc, b"n", negations(alloc, 1_000)?)?,
+        done(),
+    )?;
     assert!(rt; deep == Some(CFault::OutOfMemory));
     let flat = fault_of(alloc, declare(alloc, b"n", negations(alloc, 999)?)?, done())?;
-    assert!(rt; flat == Some(CFault::Rule { rule: 2, item: 0, statement: 1 }));
+    assert!(rt;
+        flat == Some(CFault::Rule {
+            rule: 2,
+            item: 0,
+            statement: 1
+        })
+    );
     Ok(())
 }
 
@@ -327,6 +430,12 @@ fn statements_beyond_a_thousand_levels_are_too_deep(rt: HostRuntime) -> Result<(
     let deep = fault_of(alloc, nested(alloc, 1_000)?, done())?;
     assert!(rt; deep == Some(CFault::OutOfMemory));
     let flat = fault_of(alloc, nested(alloc, 999)?, done())?;
-    assert!(rt; flat == Some(CFault::Rule { rule: 6, item: 0, statement: 2 }));
+    assert!(rt;
+        flat == Some(CFault::Rule {
+            rule: 6,
+            item: 0,
+            statement: 2
+        })
+    );
     Ok(())
 }
