@@ -1,5 +1,5 @@
 -- How many calls are active at once.
-use Rattle.std.proofs.Common.{◌≡◌, ℕ, zero, suc, ◌+◌, ◌-◌, ◌<◌, ◌≤◌, List, [], ◌∷◌, ◌++◌, refl, ap, sym, ◌∙◌, subst, arith, append_assoc, append-nil, Bool, true, false}
+use Rattle.std.proofs.Common.{◌≡◌, ℕ, zero, suc, ◌+◌, ◌-◌, ◌≤◌, List, [], ◌∷◌, ◌++◌, sym, subst, arith, append_assoc, append-nil, Bool, true, false}
 use Rattle.std.specs.Prelude.{max, if◌then◌else◌, bytes_eq}
 use Rattle.ecd_cast.specs.declared.tree.Expr.{Expr}
 use Rattle.ecd_cast.specs.declared.tree.Source.{Source}
@@ -9,7 +9,7 @@ use Rattle.ecd_cast.specs.declared.tree.Stmt.TheVariants.{Number as DeclNumber, 
 use Rattle.ecd_cast.specs.declared.tree.Function.{Function}
 use Rattle.ecd_cast.specs.declared.tree.CItem.{CItem}
 use Rattle.ecd_cast.specs.declared.tree.CItem.TheVariants.{Struct as AStruct, Function as AFunction}
-use Rattle.ecd_cast.specs.Memory.{Name, Memory, Block, Bytes, Cells, Value, Num, Truth, Ptr, Str, Event, Step, Enters, Leaves, WritesByte, WritesCell, HoldsNumber, HoldsPointer, after, most_active}
+use Rattle.ecd_cast.specs.Memory.{Name, Memory, Block, Bytes, Cells, Value, Num, Truth, Ptr, Str, Event, Step, Enters, Leaves, WritesByte, after, most_active}
 use Rattle.std.specs.Prelude.{Option, Some, None, slice_get, nat_lt, length, ◌%◌}
 use Rattle.ecd_cast.specs.Expressions.{Outcome, Gives, Fails, Scopes, lookup, given, value_of}
 use Rattle.ecd_cast.specs.Meaning.{Run, Falls, Returns, Stuck, events_of, doing, and_then, fall, Place, shifted, stuck, with, on_number, on_truth, declare, assign, leave, Calls, with_args, from_call, from_source, write, store_in, store, set_cell, Code, scoped, turns, count_of, count_in, does, does_row, block, ended, called, no_calls, with_item, calls_from, calls_of, frame_of}

@@ -26,3 +26,4 @@ pub mod Places
 pub mod SoundScopes
 pub mod SoundRuns
 pub mod SoundStmts
+pub mod SoundFiles

@@ -1,5 +1,5 @@
 -- Loops that write, turn by turn.
-use Rattle.std.proofs.Common.{◌≡◌, ℕ, zero, suc, ◌+◌, ◌*◌, ◌<◌, ◌≤◌, inl, inr, List, [], ◌∷◌, ◌++◌, refl, ap, sym, ◌∙◌, subst, arith, append-nil, append_assoc}
+use Rattle.std.proofs.Common.{◌≡◌, ℕ, zero, suc, ◌+◌, ◌*◌, ◌<◌, ◌≤◌, inl, inr, List, [], ◌∷◌, ◌++◌, sym, subst, arith, append-nil, append_assoc}
 use Rattle.ecd_cast.specs.declared.tree.Stmt.{Stmt}
 use Rattle.ecd_cast.specs.declared.tree.Stmt.TheVariants.{For}
 use Rattle.ecd_cast.specs.Memory.{Name, Memory, Num, Event, after}
@@ -7,7 +7,7 @@ use Rattle.ecd_cast.specs.Expressions.{Scopes, Frame, lookup, given, Gives}
 use Rattle.ecd_cast.specs.Meaning.{Run, Calls, Place, Code, block, does, shifted, count_of, turns, fall, leave}
 use Rattle.ecd_cast.specs.Ends.{End, Ends, Behind, With}
 use Rattle.ecd_cast.specs.Rules.{Acts, Gives_back, Falls_on}
-use Rattle.ecd_cast.specs.Laws.{written, TurnsFall, LoopFalls, LoopReturns}
+use Rattle.ecd_cast.specs.Laws.{written, LoopFalls, LoopReturns}
 use Rattle.ecd_cast.proofs.Calculus.{ends_within, ends_then, ends_step, returns_then, fall_ends, block_falls, block_returns, after-append}
 use Rattle.ecd_cast.proofs.Layers.{does-For}
 

@@ -1,16 +1,16 @@
 -- Blocks keep their extents and their kinds.
-use Rattle.std.proofs.Common.{◌≡◌, ◌≢◌, ℕ, zero, suc, ◌+◌, ◌<◌, ◌≤◌, List, [], ◌∷◌, ◌++◌, length, refl, ap, sym, ◌∙◌, subst, arith, Bool, true, false, ◌⊎◌, inl, inr, take}
-use Rattle.std.specs.Prelude.{Option, Some, None, slice_get, slice_set, nat_le, bytes_eq, if◌then◌else◌, IsTrue}
+use Rattle.std.proofs.Common.{◌≡◌, ℕ, zero, suc, List, [], ◌∷◌, length, refl, ap, sym, ◌∙◌, subst, arith, Bool, true, false}
+use Rattle.std.specs.Prelude.{Option, Some, None, slice_get, slice_set, nat_le, bytes_eq, if◌then◌else◌}
 use Rattle.std.proofs.lemmas.Slice.Eq.{bytes_eq-Decides}
 use Rattle.ecd_cast.specs.declared.tree.StructDecl.{StructDecl}
 use Rattle.ecd_cast.specs.declared.tree.CellInfo.{CellInfo}
 use Rattle.ecd_cast.specs.declared.tree.CellKind.{CellKind}
 use Rattle.ecd_cast.specs.declared.tree.CellKind.TheVariants.{Number as NumberCell, Pointer as PointerCell}
-use Rattle.ecd_cast.specs.Memory.{Name, Memory, Block, Bytes, Cells, Cell, Unset, HoldsNumber, HoldsPointer, Event, Step, Enters, Leaves, WritesByte, WritesCell, event, after, with_byte_in, with_cell_in, with_cell, Str}
-use Rattle.ecd_cast.specs.Expressions.{Outcome, Gives, Fails, cell, cell_in, cell_named, held}
+use Rattle.ecd_cast.specs.Memory.{Name, Memory, Block, Bytes, Cells, Cell, Unset, HoldsNumber, HoldsPointer, Event, Step, Enters, Leaves, WritesByte, WritesCell, event, after, with_byte_in, with_cell_in, with_cell}
+use Rattle.ecd_cast.specs.Expressions.{cell_named, held}
 use Rattle.ecd_cast.specs.Kinds.{Kind, ANumber, AReadPointer, cell_among, or_unknown, unless_known}
 use Rattle.ecd_cast.specs.Fitting.{BlockKind, Fixed, Output, CellsOf, is_place, is_place_in, may_hold, AreCellsOf, AreCellsIn, IsBlockOf, AreBlocksOf}
-use Rattle.ecd_cast.proofs.Sound.{IsSound, IsReason}
+use Rattle.ecd_cast.proofs.Sound.{IsSound}
 
 -- ---- extents
 

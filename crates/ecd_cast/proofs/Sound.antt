@@ -1,14 +1,14 @@
 -- Expressions of valid code have values of their kinds, or fail for one of the reasons 1 to 5.
-use Rattle.std.proofs.Common.{◌≡◌, ℕ, zero, suc, ◌+◌, ◌<◌, ◌≤◌, List, [], ◌∷◌, ◌++◌, length, refl, ap, sym, ◌∙◌, subst, arith, Bool, true, false, ◌⊎◌, inl, inr}
-use Rattle.std.specs.Prelude.{Option, Some, None, slice_get, nat_lt, nat_le, if◌then◌else◌, ◌&&◌, ◌/◌, ◌^◌, ◌*◌, ◌%◌, ◌-◌, not, bit_and, bit_or, nat_eq}
+use Rattle.std.proofs.Common.{◌≡◌, ℕ, ◌+◌, ◌<◌, List, [], ◌++◌, length, refl, ap, ◌∙◌, arith, Bool, true, false}
+use Rattle.std.specs.Prelude.{Option, Some, None, slice_get, nat_lt, nat_le, if◌then◌else◌, ◌&&◌, ◌/◌, ◌^◌, ◌*◌, ◌%◌}
 use Rattle.ecd_cast.specs.declared.tree.Op.{Op}
 use Rattle.ecd_cast.specs.declared.tree.Op.TheVariants.{Add, Sub, Mul, Shl, Shr, BitAnd, BitOr, Eq, Ne, Lt, Le, Gt, Ge, And, Or}
 use Rattle.ecd_cast.specs.declared.tree.Expr.{Expr, Row_of-Expr, end_of-Expr, more_of-Expr}
 use Rattle.ecd_cast.specs.declared.tree.Expr.TheVariants.{Number, Var, Cell as CellOf, Load', Binary', Not'}
 use Rattle.ecd_cast.specs.declared.tree.StructDecl.{StructDecl}
-use Rattle.ecd_cast.specs.Memory.{Name, Memory, Block, Bytes, Cells, Cell, Unset, HoldsNumber, HoldsPointer, Value, Num, Truth, Ptr, Str}
-use Rattle.ecd_cast.specs.Expressions.{Outcome, Gives, Fails, Scopes, lookup, given, with_value, cell, load, byte_in, given_byte, negated, both, either, must_be_truth, binary, applied, on_numbers, on_pointer, moved, value_of, operand}
-use Rattle.ecd_cast.specs.Kinds.{Kind, ANumber, ATruth, AReadPointer, AWritePointer, Unknown, AStruct, Known, takes, kind_in, cell_of, or_unknown, member, sum_kind, result_kind, is_summand, operands_fit, kind_of, operand_kind, unless, unless_known, asked_pointer, asked_cell, broken_by, operand_broken, broken_as}
+use Rattle.ecd_cast.specs.Memory.{Name, Memory, Block, Bytes, Cells, Value, Num, Truth, Ptr, Str}
+use Rattle.ecd_cast.specs.Expressions.{Outcome, Gives, Fails, Scopes, lookup, given, with_value, cell, load, byte_in, given_byte, negated, both, either, must_be_truth, binary, applied, on_numbers, moved, value_of, operand}
+use Rattle.ecd_cast.specs.Kinds.{Kind, ANumber, ATruth, AReadPointer, AWritePointer, Unknown, AStruct, Known, takes, kind_in, cell_of, or_unknown, member, sum_kind, result_kind, is_summand, operands_fit, kind_of, operand_kind, unless, unless_known, asked_pointer, asked_cell, broken_by, operand_broken}
 use Rattle.ecd_cast.specs.Fitting.{BlockKind, is_place, is_place_in, is_output, is_struct}
 use Rattle.ecd_cast.proofs.Kept.{front_nil, back_nil}
 

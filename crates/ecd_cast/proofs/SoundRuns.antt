@@ -1,29 +1,26 @@
 -- Statements of valid code keep scopes and memory in their kinds, and stop for one of the reasons 1 to 5 alone.
-use Rattle.std.proofs.Common.{◌≡◌, ℕ, zero, suc, ◌+◌, ◌<◌, ◌≤◌, List, [], ◌∷◌, ◌++◌, length, refl, ap, sym, ◌∙◌, subst, arith, Bool, true, false, append_assoc, append-nil}
-use Rattle.std.specs.Prelude.{Option, Some, None, slice_get, nat_lt, bytes_eq, if◌then◌else◌, ◌&&◌, ◌%◌, flat_map, not}
+use Rattle.std.proofs.Common.{◌≡◌, ℕ, List, [], ◌∷◌, ◌++◌, refl, ap, sym, ◌∙◌, subst, Bool, true, append_assoc, append-nil}
+use Rattle.std.specs.Prelude.{Option, Some, None, slice_get, bytes_eq, ◌&&◌, flat_map}
 use Rattle.std.proofs.lemmas.Slice.Eq.{bytes_eq-Decides}
 use Rattle.ecd_cast.specs.declared.tree.Expr.{Expr}
 use Rattle.ecd_cast.specs.declared.tree.Source.{Source}
 use Rattle.ecd_cast.specs.declared.tree.Source.TheVariants.{Value as FromValue, Call as FromCall}
-use Rattle.ecd_cast.specs.declared.tree.Stmt.{Stmt, Row_of-Stmt, end_of-Stmt, more_of-Stmt}
-use Rattle.ecd_cast.specs.declared.tree.Stmt.TheVariants.{Number as DeclNumber, Pointer as DeclPointer, Assign, Store, SetCell, If', For', Return}
 use Rattle.ecd_cast.specs.declared.tree.Param.{Param}
 use Rattle.ecd_cast.specs.declared.tree.ParamKind.{ParamKind}
 use Rattle.ecd_cast.specs.declared.tree.ParamKind.TheVariants.{Number as NumberParam, ReadPointer as ReadPointerParam, WritePointer as WritePointerParam, Struct as StructParam}
 use Rattle.ecd_cast.specs.declared.tree.Function.{Function}
 use Rattle.ecd_cast.specs.declared.tree.StructDecl.{StructDecl}
-use Rattle.ecd_cast.specs.declared.tree.CellInfo.{CellInfo}
-use Rattle.ecd_cast.specs.Memory.{Name, Memory, Block, Bytes, Cells, Cell, HoldsNumber, HoldsPointer, Value, Num, Truth, Ptr, Str, Event, Step, WritesByte, WritesCell, event, after, with_cell_in, with_cell}
-use Rattle.ecd_cast.specs.Expressions.{Outcome, Gives, Fails, Scopes, lookup, given, value_of, cell, cell_in, cell_named}
-use Rattle.ecd_cast.specs.Meaning.{Run, Falls, Returns, Stuck, doing, and_then, fall, Place, shifted, stuck, with, on_number, on_truth, declare, assign, leave, Calls, with_args, from_call, from_source, write, store_in, store, set_cell, Code, scoped, turns, count_of, count_in, does, does_row, block}
-use Rattle.ecd_cast.specs.Kinds.{Kind, ANumber, ATruth, AReadPointer, AWritePointer, Unknown, AStruct, Known, takes, kind_in, cell_of, cell_among, or_unknown, member, kind_of, unless, unless_known, asked, asked_cell, broken_by, broken_as, args_fit, param_kind}
-use Rattle.ecd_cast.specs.Validity.{Around, in_loop, at_place, source_broken, call_broken, call_later, function_named, assignable, assigned_kind, known_after, stmt_faults, row_faults, block_faults, is_among}
-use Rattle.ecd_cast.specs.Fitting.{BlockKind, Fixed, Output, CellsOf, is_place, is_place_in, is_output, is_struct, param_takes, params_take, IsBlockOf, AreBlocksOf, AreCellsIn, AreCellsOf, is_named}
+use Rattle.ecd_cast.specs.Memory.{Name, Memory, Block, Bytes, Cells, Cell, Value, Num, Truth, Ptr, Str, Event, Step, after}
+use Rattle.ecd_cast.specs.Expressions.{Outcome, Gives, Fails, Scopes, value_of, cell, cell_in}
+use Rattle.ecd_cast.specs.Meaning.{Run, Falls, Returns, Stuck, doing, and_then, fall, Place, with, Calls, with_args, from_call, from_source}
+use Rattle.ecd_cast.specs.Kinds.{Kind, ANumber, ATruth, AReadPointer, AWritePointer, Unknown, AStruct, Known, takes, cell_of, cell_among, or_unknown, kind_of, unless, unless_known, broken_by, broken_as, args_fit, param_kind}
+use Rattle.ecd_cast.specs.Validity.{Around, at_place, source_broken, call_broken, call_later, function_named}
+use Rattle.ecd_cast.specs.Fitting.{BlockKind, Fixed, Output, CellsOf, is_struct, param_takes, params_take, IsBlockOf, AreCellsIn, AreCellsOf, is_named}
 use Rattle.ecd_cast.proofs.Kept.{front_nil, back_nil}
 use Rattle.ecd_cast.proofs.Calculus.{after-append}
-use Rattle.ecd_cast.proofs.Sound.{IsReason, no_rule, and_first, and_second, HasKind, IsSound, FitsBoth, number_then, truth_then, expr_sound, member_sound}
-use Rattle.ecd_cast.proofs.Places.{after_place, blocks_same, block_at, BlockAt, set_block, with_cell_kept, cells_sound, MayHoldAt}
-use Rattle.ecd_cast.proofs.SoundScopes.{flatten, AllFit, FrameFits, lookup_fits, kind_after, fits_after, declared_fits, assigned_fits, IsKinded, Safe, safe_then, safe_end, byte_safe}
+use Rattle.ecd_cast.proofs.Sound.{IsReason, no_rule, and_first, and_second, HasKind, IsSound, number_then, truth_then, expr_sound}
+use Rattle.ecd_cast.proofs.Places.{block_at, BlockAt, cells_sound}
+use Rattle.ecd_cast.proofs.SoundScopes.{flatten, AllFit, lookup_fits, IsKinded, Safe, safe_then, safe_end}
 
 pub no_fault : (p : Place) (rules : List ℕ) → at_place p rules ≡ [] → rules ≡ []
 no_fault p [] e = refl

@@ -1,14 +1,14 @@
 -- Scopes whose variables have their kinds, and memories that keep their kinds from event to event.
-use Rattle.std.proofs.Common.{◌≡◌, ℕ, zero, suc, ◌+◌, ◌<◌, ◌≤◌, List, [], ◌∷◌, ◌++◌, length, refl, ap, sym, ◌∙◌, subst, arith, Bool, true, false, ◌⊎◌, inl, inr, take}
+use Rattle.std.proofs.Common.{◌≡◌, ℕ, zero, suc, List, [], ◌∷◌, ◌++◌, refl, ap, sym, ◌∙◌, subst, Bool, true, false, take}
 use Rattle.std.specs.Prelude.{Option, Some, None, slice_get, bytes_eq, if◌then◌else◌}
 use Rattle.std.proofs.lemmas.Slice.Eq.{bytes_eq-Decides}
 use Rattle.ecd_cast.specs.declared.tree.StructDecl.{StructDecl}
-use Rattle.ecd_cast.specs.Memory.{Name, Memory, Block, Bytes, Cells, Cell, Value, Num, Truth, Ptr, Str, Event, Step, Enters, Leaves, WritesByte, WritesCell, event, after, with_byte_in}
+use Rattle.ecd_cast.specs.Memory.{Name, Memory, Block, Bytes, Cells, Value, Num, Truth, Ptr, Str, Event, WritesByte, event, after, with_byte_in}
 use Rattle.std.specs.Prelude.{slice_set}
 use Rattle.ecd_cast.specs.Expressions.{Frame, Scopes, in_frame, lookup, or_else}
 use Rattle.ecd_cast.specs.Meaning.{declare, assign, set_in}
 use Rattle.ecd_cast.specs.Kinds.{Kind, ANumber, ATruth, AReadPointer, AWritePointer, Unknown, AStruct, Known, kind_in}
-use Rattle.ecd_cast.specs.Fitting.{BlockKind, Fixed, Output, CellsOf, is_place, is_output, AreBlocksOf, IsBlockOf}
+use Rattle.ecd_cast.specs.Fitting.{BlockKind, Fixed, Output, CellsOf, is_place, AreBlocksOf, IsBlockOf}
 use Rattle.ecd_cast.proofs.Sound.{HasKind, FitsBoth}
 use Rattle.ecd_cast.proofs.Places.{after_place, blocks_same, block_at, set_block}
 

@@ -1,6 +1,6 @@
 -- Statements of valid code.
-use Rattle.std.proofs.Common.{◌≡◌, ℕ, zero, suc, ◌+◌, ◌<◌, ◌≤◌, List, [], ◌∷◌, ◌++◌, length, refl, ap, sym, ◌∙◌, subst, arith, Bool, true, false, append_assoc, append-nil, ◌⊎◌, inl, inr}
-use Rattle.std.specs.Prelude.{Option, Some, None, slice_get, slice_set, nat_lt, bytes_eq, if◌then◌else◌, ◌&&◌, ◌%◌, not}
+use Rattle.std.proofs.Common.{◌≡◌, ℕ, zero, suc, ◌+◌, List, [], ◌∷◌, ◌++◌, length, refl, ap, sym, ◌∙◌, subst, arith, Bool, true, false, ◌⊎◌, inl, inr}
+use Rattle.std.specs.Prelude.{Option, Some, None, slice_get, slice_set, nat_lt, bytes_eq, if◌then◌else◌, ◌%◌, not}
 use Rattle.ecd_cast.specs.declared.tree.Expr.{Expr}
 use Rattle.ecd_cast.specs.declared.tree.Source.{Source}
 use Rattle.ecd_cast.specs.declared.tree.Stmt.{Stmt, Row_of-Stmt, end_of-Stmt, more_of-Stmt}
@@ -10,17 +10,17 @@ use Rattle.ecd_cast.specs.declared.tree.StructDecl.{StructDecl}
 use Rattle.ecd_cast.specs.declared.tree.CellInfo.{CellInfo}
 use Rattle.ecd_cast.specs.declared.tree.CellKind.{CellKind}
 use Rattle.ecd_cast.specs.declared.tree.CellKind.TheVariants.{Number as NumberCell, Pointer as PointerCell}
-use Rattle.ecd_cast.specs.Memory.{Name, Memory, Block, Bytes, Cells, Cell, HoldsNumber, HoldsPointer, Value, Num, Truth, Ptr, Str, Event, Step, WritesByte, WritesCell, event, after, with_cell_in, with_cell}
-use Rattle.ecd_cast.specs.Expressions.{Outcome, Gives, Fails, Scopes, lookup, given, value_of}
-use Rattle.ecd_cast.specs.Meaning.{Run, Falls, Returns, Stuck, doing, and_then, fall, Place, shifted, stuck, with, on_number, on_truth, declare, assign, leave, Calls, write, store_in, store, set_cell, Code, scoped, turns, count_of, count_in, does, does_row, block}
+use Rattle.ecd_cast.specs.Memory.{Name, Memory, Block, Bytes, Cells, Cell, HoldsNumber, HoldsPointer, Value, Num, Truth, Ptr, Str, WritesByte, WritesCell, event, after, with_cell_in, with_cell}
+use Rattle.ecd_cast.specs.Expressions.{Scopes, lookup, given, value_of}
+use Rattle.ecd_cast.specs.Meaning.{Run, Returns, and_then, fall, Place, shifted, stuck, with, on_number, on_truth, declare, assign, leave, Calls, write, store_in, store, set_cell, Code, scoped, turns, count_of, count_in, does, does_row, block}
 use Rattle.ecd_cast.specs.Kinds.{Kind, ANumber, ATruth, AReadPointer, AWritePointer, Unknown, AStruct, Known, takes, kind_in, cell_of, cell_among, or_unknown, member, unless, unless_known, asked, asked_cell, broken_as}
-use Rattle.ecd_cast.specs.Validity.{Around, in_loop, at_place, source_broken, function_named, assignable, assigned_kind, known_after, stmt_faults, row_faults, block_faults, is_among}
-use Rattle.ecd_cast.specs.Fitting.{BlockKind, CellsOf, is_place, is_place_in, is_output, is_struct, params_take, IsBlockOf, AreBlocksOf, AreCellsIn, AreCellsOf}
+use Rattle.ecd_cast.specs.Validity.{Around, at_place, source_broken, function_named, assignable, assigned_kind, known_after, stmt_faults, row_faults, block_faults, is_among}
+use Rattle.ecd_cast.specs.Fitting.{BlockKind, CellsOf, is_place, is_place_in, is_struct, params_take, IsBlockOf, AreBlocksOf, AreCellsIn, AreCellsOf}
 use Rattle.ecd_cast.proofs.Kept.{front_nil, back_nil}
-use Rattle.ecd_cast.proofs.Sound.{IsReason, no_rule, HasKind, IsSound, FitsBoth}
+use Rattle.ecd_cast.proofs.Sound.{no_rule, HasKind, FitsBoth}
 use Rattle.ecd_cast.proofs.Places.{after_place, blocks_same, set_block, with_cell_kept, MayHoldAt}
-use Rattle.ecd_cast.proofs.SoundScopes.{flatten, AllFit, lookup_fits, kind_after, fits_after, declared_fits, assigned_fits, IsKinded, Safe, safe_end, byte_safe}
-use Rattle.ecd_cast.proofs.SoundRuns.{Agrees, no_fault, kind_taken, Keeps, CallKeeps, then_keeps, step_keeps, with_keeps, struct_at, asked_keeps, source_keeps}
+use Rattle.ecd_cast.proofs.SoundScopes.{flatten, AllFit, lookup_fits, fits_after, declared_fits, assigned_fits, IsKinded, Safe, byte_safe}
+use Rattle.ecd_cast.proofs.SoundRuns.{Agrees, no_fault, kind_taken, Keeps, CallKeeps, then_keeps, step_keeps, struct_at, asked_keeps, source_keeps}
 
 cell_kinds : (is : List CellInfo) (c : Name) (k : Kind) → cell_among is c ≡ Some k → (k ≡ ANumber) ⊎ (k ≡ AReadPointer)
 cell_kinds [] c k e = absurd cc

@@ -9,7 +9,7 @@ use Rattle.ecd_cast.specs.declared.tree.CellKind.TheVariants.{Number as NumberCe
 use Rattle.ecd_cast.specs.declared.tree.Param.{Param}
 use Rattle.ecd_cast.specs.declared.tree.ParamKind.{ParamKind}
 use Rattle.ecd_cast.specs.declared.tree.ParamKind.TheVariants.{Number as NumberParam, ReadPointer as ReadPointerParam, WritePointer as WritePointerParam, Struct as StructParam}
-use Rattle.ecd_cast.specs.Memory.{Name, Memory, Block, Bytes, Cells, Cell, Unset, HoldsNumber, HoldsPointer, Value, Num, Truth, Ptr, Str}
+use Rattle.ecd_cast.specs.Memory.{Name, Memory, Block, Bytes, Cells, Cell, Unset, HoldsNumber, HoldsPointer, Value, Num, Ptr, Str}
 use Rattle.ecd_cast.specs.Validity.{structs_of}
 
 -- what a block is for: bytes that are read alone, bytes that are written too, or the cells of a struct, by its number among the structs in text order

@@ -17,3 +17,4 @@ pub mod Kept
 pub mod Rules
 pub mod Laws
 pub mod Fitting
+pub mod Safety

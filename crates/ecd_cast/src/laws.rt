@@ -1,6 +1,7 @@
 //! Facts about the definitions alone, each the contract of a function that does nothing.
 
 ghost use Rattle.ecd_cast.specs.Laws.{MeaningIsKept, ValidityIsKept, FirstFault, Sequence, SequenceReturns, LoopFalls, LoopReturns, Choice, Call, CallDeclares, Repetition, OtherBlocks, WritesMakeMemory, ActiveCalls, Steps};
+ghost use Rattle.ecd_cast.specs.Safety.{ValidCalls};
 
 /// Items behind a function change nothing of what it does, and nothing of an item's validity.
 pub fn items_behind()
@@ -50,6 +51,11 @@ pub fn memory()
 /// Never more calls are active in a call than the longest chain of calls has.
 pub fn active_calls()
     ensures { ActiveCalls }
+{}
+
+/// A call of a valid program, with arguments that fit in a memory whose cells have the kinds of their structs, returns or is stuck for one of the reasons 1 to 5, and the memory keeps the kinds.
+pub fn valid_calls()
+    ensures { ValidCalls }
 {}
 
 /// The first steps of a run.

@@ -1,5 +1,4 @@
 use Rattle.ecd_cast.proofs.Active.{active_calls}
-use Rattle.ecd_cast.proofs.SoundStmts.{block_keeps}
 use Rattle.ecd_cast.proofs.laws.active_calls.Goals as goal
 
 pub returns : goal.returns
