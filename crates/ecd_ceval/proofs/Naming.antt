@@ -83,7 +83,7 @@ none_behind before (AFunction f ∷ is) at g h e =
       none_behind (before ++ AFunction f ∷ []) is (at + 1) g (among_more before (AFunction f) g h) (back_nil (item_faults before (AFunction f) (AFunction f ∷ is) at) _ e),
     )
 
-behind_it : (before items : List CItem) (at number : ℕ) (f : Function) → faults_from before items at ≡ [] → slice_get items number ≡ Some (AFunction f) → IsNew f.name (drop (suc number) items)
+pub behind_it : (before items : List CItem) (at number : ℕ) (f : Function) → faults_from before items at ≡ [] → slice_get items number ≡ Some (AFunction f) → IsNew f.name (drop (suc number) items)
 behind_it before [] at number f e h = absurd cc
 behind_it before (i ∷ is) at zero f e h =
     let this : i ≡ AFunction f = cc in

@@ -147,10 +147,12 @@ pub record Stays (old new : Seen) : Type 0 where
 
 -- ---- cells and bytes
 
-abbrev pub IsCells : Option Block → Type 0
-IsCells (Some (Cells cells)) = Unit {0}
-IsCells (Some (Bytes bytes)) = ⊥
-IsCells None = ⊥
+-- the block holds the cells of a struct
+abbrev pub IsOfCells : Option BlockKind → Type 0
+IsOfCells (Some (CellsOf number)) = Unit {0}
+IsOfCells (Some Fixed) = ⊥
+IsOfCells (Some Output) = ⊥
+IsOfCells None = ⊥
 
 -- what the cells of a block hold, in the order of their struct
 abbrev pub cells_in : Option Block → List Cell
