@@ -127,28 +127,16 @@ fn a_machine_answers_the_same_each_time(rt: HostRuntime) -> Result<(), Fail> {
     let mut machine = Machine::prepare(alloc, &valid, blocks)?;
     assert!(rt; machine.cells(2) == [Cell::Unset, Cell::Unset].as_slice());
     assert_eq!(rt; machine.program().call_depth(), 1);
-    let args = [
-        Arg::Bytes {
-            block: 0,
-            offset: 0,
-        },
-        Arg::Bytes {
-            block: 1,
-            offset: 0,
-        },
-        Arg::Struct { block: 2 },
-    ];
-    let read = [
-        Arg::Bytes {
-            block: 0,
-            offset: 0,
-        },
-        Arg::Bytes {
-            block: 0,
-            offset: 0,
-        },
-        Arg::Struct { block: 2 },
-    ];
+    let place = Arg::Bytes {
+        block: 0,
+        offset: 2,
+    };
+    let target = Arg::Bytes {
+        block: 1,
+        offset: 0,
+    };
+    let args = [place, Arg::Number(0x102), target, Arg::Struct { block: 2 }];
+    let read = [place, Arg::Number(0x102), place, Arg::Struct { block: 2 }];
     assert!(rt; !machine.fits(1, &read));
     assert!(rt; !machine.fits(0, &args));
     assert!(rt; !machine.fits(2, &args));
