@@ -9,9 +9,8 @@ use Rattle.ecd_cast.specs.declared.value.Value.{Value}
 use Rattle.ecd_cast.specs.declared.value.Value.TheVariants.{Number as Num, Bytes as Ptr, Struct as Str}
 use Rattle.ecd_cast.specs.declared.value.Cell.{Cell}
 use Rattle.ecd_cast.specs.declared.value.Cell.TheVariants.{Unset, Number as HoldsNumber, Bytes as HoldsPointer}
-use Rattle.ecd_cast.specs.Memory.{Name, Memory, Block, Bytes, Cells, Event, after, steps_of, first_steps}
+use Rattle.ecd_cast.specs.Memory.{Name, Memory, Block, Bytes, Cells, after, steps_of, first_steps}
 use Rattle.ecd_cast.specs.Meaning.{Run, Falls, Returns, Stuck, calls_of, called, events_of}
-use Rattle.ecd_cast.specs.Validity.{structs_of}
 use Rattle.ecd_cast.specs.Fitting.{BlockKind, Fixed, Output, CellsOf}
 use Rattle.ecd_ceval.specs.declared.blocks.Held.{Held}
 use Rattle.ecd_ceval.specs.Blocks.{named, block_of, kind_of, lasting_of, IsHeld, AreAllHeld}
