@@ -1,6 +1,6 @@
 -- Machines: their cells, and the answers of calls.
-use Rattle.std.proofs.Common.{◌≡◌, ℕ, zero, suc, ◌+◌, ◌-◌, ◌<◌, ◌≤◌, min, max, List, [], ◌∷◌, ◌++◌, length, get_or, set, take, map, refl, ap, sym, subst, ◌∙◌, arith, append-nil}
-use Rattle.std.specs.Prelude.{Option, Some, None, Result, Ok, Err, slice_get, slice_set, replicate, true, Vec}
+use Rattle.std.proofs.Common.{◌≡◌, ℕ, zero, suc, ◌<◌, min, List, [], ◌∷◌, ◌++◌, length, get_or, set, take, map, refl, ap, sym, subst, ◌∙◌, arith, append-nil}
+use Rattle.std.specs.Prelude.{Option, Some, None, Result, Ok, Err, slice_get, replicate, true, Vec}
 use Rattle.std.specs.Option.{option_map}
 use Rattle.std.specs.declared.alloc.Global.{Global}
 use Rattle.std.proofs.lemmas.List.{map-set, length-set, length-replicate}
@@ -11,9 +11,9 @@ use Rattle.ecd_cast.specs.declared.tree.CellInfo.{CellInfo}
 use Rattle.ecd_cast.specs.declared.tree.StructDecl.{StructDecl}
 use Rattle.ecd_cast.specs.declared.value.Cell.{Cell}
 use Rattle.ecd_cast.specs.declared.value.Cell.TheVariants.{Unset}
-use Rattle.ecd_cast.specs.Memory.{Name, Memory, Block, Bytes, Cells, Event, after, steps_of, first_steps}
+use Rattle.ecd_cast.specs.Memory.{Memory, Bytes, Cells, Event, after, steps_of, first_steps}
 use Rattle.ecd_cast.specs.Expressions.{Scopes}
-use Rattle.ecd_cast.specs.Fitting.{AreCellsOf, is_place_in, may_hold, IsWellKinded, AreBlocksOf, AreCellsIn, BlockKind, Fixed, Output, CellsOf}
+use Rattle.ecd_cast.specs.Fitting.{AreCellsOf, is_place_in, IsWellKinded, AreBlocksOf, AreCellsIn, BlockKind, Fixed, CellsOf}
 use Rattle.ecd_cast.specs.declared.tree.CItem.{CItem}
 use Rattle.ecd_cast.specs.declared.tree.CItem.TheVariants.{Function as AFunction}
 use Rattle.ecd_cast.specs.declared.tree.Function.{Function}
@@ -37,7 +37,7 @@ use Rattle.ecd_ceval.specs.declared.state.State.{State}
 use Rattle.ecd_ceval.specs.Blocks.{named, block_of, memory_of, kind_of, lasting_of, IsHeld, AreHeld, AreAllHeld}
 use Rattle.ecd_ceval.specs.Writes.{kind_holds, CellHolds, CellHoldsIn, HasCell, HasCellIn}
 use Rattle.ecd_ceval.specs.Steps.{Passes}
-use Rattle.ecd_ceval.specs.Following.{Follows, Whole, Part, Spends, Wants, IsCut, memory_in}
+use Rattle.ecd_ceval.specs.Following.{Follows, Whole, Spends, Wants, IsCut, memory_in}
 use Rattle.ecd_ceval.specs.Machines.{unset, unset_of, kind_given, block_given, IsHeldAs, IsNumbered, AreNumbered, Stays, bytes_in, cells_in, set_in, with_cell_at, started, taken_by, IsWithin, Wanted, Answers, Runs, meaning, meaning_of, MaySet, info_in, AreNamed, AreNamedBy, IsSmall}
 use Rattle.ecd_ceval.proofs.Following.{Waits}
 use Rattle.ecd_ceval.proofs.Running.{waits_called}

@@ -1,5 +1,5 @@
 -- Functions by name, and the frames that they begin with.
-use Rattle.std.proofs.Common.{◌≡◌, ℕ, zero, suc, ◌+◌, ◌<◌, ◌≤◌, Bool, true, false, List, [], ◌∷◌, ◌++◌, length, get_or, take, drop, min, refl, ap, sym, subst, ◌∙◌, arith}
+use Rattle.std.proofs.Common.{◌≡◌, ℕ, ◌+◌, ◌<◌, ◌≤◌, Bool, true, false, List, [], ◌∷◌, length, get_or, take, drop, min, refl, ap, ◌∙◌, arith}
 use Rattle.std.specs.Prelude.{bytes_eq}
 use Rattle.std.proofs.lemmas.List.{take_more, length-take, drop_all}
 use Rattle.ecd_cast.specs.declared.tree.CItem.{CItem}
@@ -9,8 +9,7 @@ use Rattle.ecd_cast.specs.declared.tree.Function.{Function}
 use Rattle.ecd_cast.specs.declared.tree.Param.{Param}
 use Rattle.ecd_cast.specs.declared.value.Value.{Value}
 use Rattle.ecd_cast.specs.Memory.{Name, Memory}
-use Rattle.ecd_cast.specs.Expressions.{Frame}
-use Rattle.ecd_cast.specs.Meaning.{Run, Calls, calls_of, calls_from, no_calls, with_item, called, frame_of}
+use Rattle.ecd_cast.specs.Meaning.{Run, calls_of, no_calls, with_item, called, frame_of}
 use Rattle.ecd_cast.proofs.Calculus.{calls_append}
 
 -- one more item

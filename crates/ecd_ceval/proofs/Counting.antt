@@ -1,5 +1,5 @@
 -- Statements, counted.
-use Rattle.std.proofs.Common.{◌≡◌, ℕ, zero, suc, ◌+◌, ◌<◌, ◌≤◌, List, [], ◌∷◌, length, get_or, take, refl, ap, sym, subst, ◌∙◌, arith}
+use Rattle.std.proofs.Common.{◌≡◌, ℕ, zero, suc, ◌+◌, ◌<◌, List, [], ◌∷◌, length, get_or, take, ap, sym, subst, ◌∙◌, arith}
 use Rattle.ecd_cast.specs.declared.tree.Expr.{Expr}
 use Rattle.ecd_cast.specs.declared.tree.Stmt.{Stmt}
 use Rattle.ecd_cast.specs.declared.tree.Stmt.TheBlock as stmts

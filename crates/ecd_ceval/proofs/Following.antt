@@ -1,7 +1,6 @@
 -- Following a run that has parts.
-use Rattle.std.proofs.Common.{◌≡◌, ℕ, zero, suc, ◌+◌, ◌-◌, ◌<◌, ◌≤◌, List, [], ◌∷◌, ◌++◌, length, take, drop, refl, ap, sym, subst, ◌∙◌, arith, append-nil, append_assoc}
+use Rattle.std.proofs.Common.{◌≡◌, ℕ, zero, suc, ◌+◌, ◌<◌, ◌≤◌, List, [], ◌∷◌, ◌++◌, length, take, drop, refl, ap, sym, subst, ◌∙◌, arith, append-nil}
 use Rattle.std.specs.Prelude.{Result, Ok, Err, map}
-use Rattle.ecd_cast.specs.declared.value.Value.TheVariants.{Number as Num}
 use Rattle.ecd_cast.specs.Memory.{Memory, Event, Step, Enters, Leaves, WritesByte, WritesCell, after, event, steps_of, first_steps}
 use Rattle.ecd_cast.specs.Expressions.{Scopes}
 use Rattle.ecd_cast.specs.Meaning.{Run, Falls, Returns, Stuck, doing, and_then, events_of, Code}
@@ -18,7 +17,7 @@ use Rattle.ecd_ceval.specs.declared.stop.Stop.TheVariants as stop
 use Rattle.ecd_ceval.specs.declared.state.State.{State}
 use Rattle.ecd_ceval.specs.Blocks.{block_of, lasting_of, AreAllHeld}
 use Rattle.ecd_ceval.specs.Steps.{Passes}
-use Rattle.ecd_ceval.specs.Following.{memory_in, Whole, Part, Spends, Wants, IsCut, Follows}
+use Rattle.ecd_ceval.specs.Following.{memory_in, Whole, Part, IsCut, Follows}
 
 -- ---- meters
 

@@ -1,6 +1,6 @@
 -- Writes keep the kinds of cells.
-use Rattle.std.proofs.Common.{◌≡◌, ℕ, zero, suc, ◌<◌, Bool, true, false, List, [], ◌∷◌, length, get_or, set, map, refl, ap, sym, subst, ◌∙◌, arith}
-use Rattle.std.specs.Prelude.{Option, Some, None, slice_get, slice_set, IsTrue}
+use Rattle.std.proofs.Common.{◌≡◌, ℕ, zero, suc, ◌<◌, Bool, true, List, [], ◌∷◌, length, get_or, set, refl, sym, subst, arith}
+use Rattle.std.specs.Prelude.{Some, slice_get, slice_set, IsTrue}
 use Rattle.std.proofs.lemmas.List.{map-set}
 use Rattle.ecd_cast.specs.declared.tree.CellInfo.{CellInfo}
 use Rattle.ecd_cast.specs.declared.tree.CellKind.{CellKind}
@@ -8,7 +8,7 @@ use Rattle.ecd_cast.specs.declared.tree.CellKind.TheVariants.{Number as NumberCe
 use Rattle.ecd_cast.specs.declared.tree.StructDecl.{StructDecl}
 use Rattle.ecd_cast.specs.declared.value.Cell.{Cell}
 use Rattle.ecd_cast.specs.declared.value.Cell.TheVariants.{Unset, Number as HoldsNumber, Bytes as HoldsPointer}
-use Rattle.ecd_cast.specs.Memory.{Name, Memory, Block, Bytes, Cells}
+use Rattle.ecd_cast.specs.Memory.{Name, Memory, Block}
 use Rattle.ecd_cast.specs.Fitting.{is_place, is_place_in, may_hold, AreCellsOf}
 use Rattle.ecd_ceval.specs.declared.blocks.Held.{Held}
 use Rattle.ecd_ceval.specs.declared.blocks.Held.TheVariants.{Fixed as HeldFixed, Output as HeldOutput, Cells as HeldCells}

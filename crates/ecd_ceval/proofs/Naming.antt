@@ -1,22 +1,20 @@
 -- In a valid program a name is given to one function.
-use Rattle.std.proofs.Common.{◌≡◌, ℕ, zero, suc, ◌+◌, ◌<◌, Bool, true, false, List, [], ◌∷◌, ◌++◌, length, get_or, take, drop, refl, ap, sym, subst, ◌∙◌, arith, append-nil}
-use Rattle.std.specs.Prelude.{Option, Some, None, not, ◌||◌, map, flat_map, slice_get, bytes_eq}
+use Rattle.std.proofs.Common.{◌≡◌, ℕ, zero, suc, ◌+◌, Bool, true, false, List, [], ◌∷◌, ◌++◌, take, drop, refl, ap, sym, subst, ◌∙◌, arith}
+use Rattle.std.specs.Prelude.{Some, not, ◌||◌, flat_map, slice_get, bytes_eq}
 use Rattle.std.proofs.lemmas.List.{take-append-drop}
 use Rattle.std.proofs.lemmas.Option.{slice_get_within, get_or_from_slice_get}
 use Rattle.std.proofs.lemmas.Slice.Eq.{bytes_eq-Decides}
 use Rattle.ecd_cast.specs.declared.tree.CItem.{CItem}
 use Rattle.ecd_cast.specs.declared.tree.CItem.TheVariants.{Struct as AStruct, Function as AFunction}
 use Rattle.ecd_cast.specs.declared.tree.Function.{Function}
-use Rattle.ecd_cast.specs.declared.tree.Program.{Program}
-use Rattle.ecd_cast.specs.declared.value.Value.{Value}
-use Rattle.ecd_cast.specs.Memory.{Name, Memory}
+use Rattle.ecd_cast.specs.Memory.{Name}
 use Rattle.ecd_cast.specs.Kinds.{unless}
 use Rattle.ecd_cast.specs.Kept.{IsNew}
-use Rattle.ecd_cast.specs.Meaning.{Place, calls_of, called}
-use Rattle.ecd_cast.specs.Validity.{at_place, is_among, function_names, struct_names, param_broken, block_returns, item_faults, faults_from, IsValid}
+use Rattle.ecd_cast.specs.Meaning.{Place, calls_of}
+use Rattle.ecd_cast.specs.Validity.{at_place, is_among, function_names, struct_names, param_broken, block_returns, item_faults, faults_from}
 use Rattle.ecd_cast.proofs.Kept.{front_nil, back_nil}
 use Rattle.ecd_cast.proofs.Calculus.{calls_kept}
-use Rattle.ecd_ceval.specs.Machines.{meaning, meaning_of}
+use Rattle.ecd_ceval.specs.Machines.{meaning_of}
 use Rattle.ecd_ceval.specs.Laws.{NumbersMeanNames}
 use Rattle.ecd_ceval.proofs.Calling.{meant_here}
 
@@ -83,7 +81,7 @@ none_behind before (AFunction f ∷ is) at g h e =
       none_behind (before ++ AFunction f ∷ []) is (at + 1) g (among_more before (AFunction f) g h) (back_nil (item_faults before (AFunction f) (AFunction f ∷ is) at) _ e),
     )
 
-behind_it : (before items : List CItem) (at number : ℕ) (f : Function) → faults_from before items at ≡ [] → slice_get items number ≡ Some (AFunction f) → IsNew f.name (drop (suc number) items)
+pub behind_it : (before items : List CItem) (at number : ℕ) (f : Function) → faults_from before items at ≡ [] → slice_get items number ≡ Some (AFunction f) → IsNew f.name (drop (suc number) items)
 behind_it before [] at number f e h = absurd cc
 behind_it before (i ∷ is) at zero f e h =
     let this : i ≡ AFunction f = cc in

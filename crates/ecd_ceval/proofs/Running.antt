@@ -1,5 +1,5 @@
 -- Blocks, loops and calls, followed by their parts.
-use Rattle.std.proofs.Common.{◌≡◌, ℕ, zero, suc, ◌+◌, ◌-◌, ◌<◌, ◌≤◌, List, [], ◌∷◌, ◌++◌, length, get_or, drop, refl, ap, sym, subst, ◌∙◌, arith, append-nil, append_assoc, drop-cons, add-one}
+use Rattle.std.proofs.Common.{◌≡◌, ℕ, zero, suc, ◌+◌, ◌<◌, ◌≤◌, List, [], ◌∷◌, ◌++◌, length, get_or, drop, refl, ap, sym, subst, ◌∙◌, append-nil, append_assoc, drop-cons, add-one}
 use Rattle.std.specs.Prelude.{Result, Ok, Err, bytes_eq, Bool, true, false}
 use Rattle.std.proofs.lemmas.List.{drop_all}
 use Rattle.ecd_cast.specs.declared.tree.Expr.{Expr}
@@ -13,7 +13,7 @@ use Rattle.ecd_cast.specs.declared.value.Value.{Value}
 use Rattle.ecd_cast.specs.declared.value.Value.TheVariants.{Number as Num, Truth}
 use Rattle.ecd_cast.specs.Memory.{Name, Memory, Event, Step, Enters, Leaves, after}
 use Rattle.ecd_cast.specs.Expressions.{Outcome, Gives, Fails, Scopes, lookup, given, value_of}
-use Rattle.ecd_cast.specs.Meaning.{Run, Falls, Returns, Stuck, Calls, Code, Place, doing, and_then, fall, events_of, does, block, turns, scoped, leave, declare, assign, shifted, count_of, stuck, with_args, from_call, with, calls_of, calls_from, no_calls, with_item, called, ended, frame_of}
+use Rattle.ecd_cast.specs.Meaning.{Run, Falls, Returns, Stuck, Calls, Code, Place, doing, and_then, fall, events_of, does, block, turns, scoped, leave, declare, assign, shifted, count_of, with_args, from_call, with, calls_of, calls_from, no_calls, with_item, called, ended, frame_of}
 use Rattle.ecd_cast.specs.Laws.{count_all}
 use Rattle.ecd_cast.proofs.Layers.{does-If, does-For}
 use Rattle.ecd_ceval.specs.declared.stop.Flow.{Flow}

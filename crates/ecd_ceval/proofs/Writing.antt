@@ -1,6 +1,6 @@
 -- Cells by their names, and what a write does.
-use Rattle.std.proofs.Common.{◌≡◌, ℕ, zero, suc, ◌+◌, ◌<◌, Bool, true, false, List, [], ◌∷◌, length, get_or, set, take, map, refl, ap, sym, subst, ◌∙◌, arith}
-use Rattle.std.specs.Prelude.{Option, Some, None, slice_get, slice_set, nat_le, if◌then◌else◌, bytes_eq, Vec}
+use Rattle.std.proofs.Common.{◌≡◌, ℕ, zero, suc, ◌<◌, Bool, true, false, List, [], ◌∷◌, length, get_or, set, take, refl, ap, sym, subst, ◌∙◌, arith}
+use Rattle.std.specs.Prelude.{Option, Some, None, slice_get, nat_le, if◌then◌else◌, bytes_eq, Vec}
 use denote.Bor.{Bor}
 use Rattle.std.specs.Option.{option_map}
 use Rattle.std.specs.declared.alloc.Global.{Global}
@@ -11,11 +11,11 @@ use Rattle.std.proofs.lemmas.Slice.Eq.{bytes_eq-Decides}
 use Rattle.ecd_cast.specs.declared.tree.CellInfo.{CellInfo}
 use Rattle.ecd_cast.specs.declared.tree.StructDecl.{StructDecl}
 use Rattle.ecd_cast.specs.declared.value.Cell.{Cell}
-use Rattle.ecd_cast.specs.Memory.{Name, Memory, Block, Bytes, Cells, Event, WritesByte, WritesCell, event, with_cell, with_byte_in, with_cell_in}
+use Rattle.ecd_cast.specs.Memory.{Name, Bytes, Cells, WritesByte, WritesCell, with_cell, with_byte_in, with_cell_in}
 use Rattle.ecd_cast.specs.Fitting.{is_place_in, AreCellsOf}
-use Rattle.ecd_cast.specs.Expressions.{Outcome, Gives, Fails, held, cell_named}
+use Rattle.ecd_cast.specs.Expressions.{Fails, held, cell_named}
 use Rattle.ecd_ceval.specs.declared.blocks.Held.{Held}
-use Rattle.ecd_ceval.specs.declared.blocks.Held.TheVariants.{Fixed as HeldFixed, Output as HeldOutput, Cells as HeldCells}
+use Rattle.ecd_ceval.specs.declared.blocks.Held.TheVariants.{Output as HeldOutput, Cells as HeldCells}
 use Rattle.ecd_ceval.specs.Blocks.{named, block_of, memory_of, lasting_of, OutputOf}
 use Rattle.ecd_ceval.specs.Writes.{IsNoCell, IsFirstCell, IsWritten, MayWrite, MayWriteIn}
 use Rattle.ecd_ceval.proofs.Keeping.{at_block, cells_set, kept_by}

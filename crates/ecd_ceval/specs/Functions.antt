@@ -1,5 +1,5 @@
 -- Functions by name, and their arguments.
-use Rattle.std.specs.Prelude.{ℕ, ◌≡◌, ◌<◌, List, [], take, slice_get, Option, Some, Result, Ok, Err}
+use Rattle.std.specs.Prelude.{ℕ, ◌≡◌, ◌<◌, List, [], take, slice_get, Some, Result, Ok, Err}
 use Rattle.ecd_cast.specs.declared.tree.CItem.{CItem}
 use Rattle.ecd_cast.specs.declared.tree.CItem.TheVariants.{Function as AFunction}
 use Rattle.ecd_cast.specs.declared.tree.Function.{Function}

@@ -9,9 +9,8 @@ use Rattle.ecd_cast.specs.declared.value.Value.{Value}
 use Rattle.ecd_cast.specs.declared.value.Value.TheVariants.{Number as Num, Bytes as Ptr, Struct as Str}
 use Rattle.ecd_cast.specs.declared.value.Cell.{Cell}
 use Rattle.ecd_cast.specs.declared.value.Cell.TheVariants.{Unset, Number as HoldsNumber, Bytes as HoldsPointer}
-use Rattle.ecd_cast.specs.Memory.{Name, Memory, Block, Bytes, Cells, Event, after, steps_of, first_steps}
+use Rattle.ecd_cast.specs.Memory.{Name, Memory, Block, Bytes, Cells, after, steps_of, first_steps}
 use Rattle.ecd_cast.specs.Meaning.{Run, Falls, Returns, Stuck, calls_of, called, events_of}
-use Rattle.ecd_cast.specs.Validity.{structs_of}
 use Rattle.ecd_cast.specs.Fitting.{BlockKind, Fixed, Output, CellsOf}
 use Rattle.ecd_ceval.specs.declared.blocks.Held.{Held}
 use Rattle.ecd_ceval.specs.Blocks.{named, block_of, kind_of, lasting_of, IsHeld, AreAllHeld}
@@ -147,10 +146,12 @@ pub record Stays (old new : Seen) : Type 0 where
 
 -- ---- cells and bytes
 
-abbrev pub IsCells : Option Block → Type 0
-IsCells (Some (Cells cells)) = Unit {0}
-IsCells (Some (Bytes bytes)) = ⊥
-IsCells None = ⊥
+-- the block holds the cells of a struct
+abbrev pub IsOfCells : Option BlockKind → Type 0
+IsOfCells (Some (CellsOf number)) = Unit {0}
+IsOfCells (Some Fixed) = ⊥
+IsOfCells (Some Output) = ⊥
+IsOfCells None = ⊥
 
 -- what the cells of a block hold, in the order of their struct
 abbrev pub cells_in : Option Block → List Cell

@@ -1,7 +1,7 @@
 -- Operators by what their left operand leaves open.
 use Rattle.std.specs.Prelude.{◌≡◌, Option, Some, None, Result}
 use Rattle.ecd_cast.specs.declared.tree.Op.{Op}
-use Rattle.ecd_cast.specs.declared.tree.Op.TheVariants.{Add, Sub, Mul, Shl, Shr, BitAnd, BitOr, Eq, Ne, Lt, Le, Gt, Ge, And, Or}
+use Rattle.ecd_cast.specs.declared.tree.Op.TheVariants.{And, Or}
 use Rattle.ecd_cast.specs.declared.value.Value.{Value}
 use Rattle.ecd_cast.specs.Memory.{Memory}
 use Rattle.ecd_cast.specs.Expressions.{Outcome, Gives, with_value, binary, applied, must_be_truth}

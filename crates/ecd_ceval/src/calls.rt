@@ -16,7 +16,7 @@ use ecd_list::{List, OutOfMemory};
 use std::alloc::Global;
 
 /// How deep calls and blocks stand inside each other at most, for the stack's sake.
-const MOST_LEVELS: u32 = 4000;
+const MOST_LEVELS: u32 = 1000;
 
 /// The value of an argument.
 fn value_of(arg: Arg) -> Value

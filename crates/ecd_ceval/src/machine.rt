@@ -5,7 +5,7 @@ ghost use Rattle.ecd_cast.specs.declared.value.Cell.TheVariants.{Unset};
 ghost use Rattle.ecd_cast.specs.Validity.{structs_of};
 ghost use Rattle.ecd_cast.specs.Fitting.{Fits, IsWellKinded, Output};
 ghost use Rattle.ecd_cast.specs.Memory.{Bytes};
-ghost use Rattle.ecd_ceval.specs.Machines.{IsNumbered, IsHeldAs, AreNumbered, kind_given, block_given, value_of_arg, meaning, Answers, Stays, IsCells, cells_in, AreNamed, MaySet, set_in, CanView, viewed};
+ghost use Rattle.ecd_ceval.specs.Machines.{IsNumbered, IsHeldAs, AreNumbered, kind_given, block_given, value_of_arg, meaning, Answers, Stays, IsOfCells, cells_in, AreNamed, MaySet, set_in, CanView, viewed};
 
 use crate::blocks::{Held, set_cell};
 use crate::calls::run;
@@ -189,7 +189,7 @@ impl<'a> Machine<'a> {
     ///
     /// The block holds cells.
     pub fn cells(&self, block: u32) -> &[Cell]
-        requires { IsCells (slice_get self.now.memory block) }
+        requires { IsOfCells (slice_get self.now.kinds block) }
         ensures cells { result.now ≡ cells_in (slice_get self.now.memory block) }
         ensures named { AreNamed (structs_of self.now.program.items) (slice_get self.now.kinds block) result.now (slice_get self.now.memory block) }
         ensures kinded { IsWellKinded self.now.program.items self.now.kinds self.now.memory }
@@ -213,9 +213,10 @@ impl<'a> Machine<'a> {
 
     /// So many bytes where a cell points to. They are the buffer's own.
     ///
-    /// The cell points into a `Fixed` block, with so many bytes left.
+    /// The block holds cells, and the cell points into a `Fixed` block, with so many bytes left.
     pub fn view(&self, block: u32, cell: u32, length: u64) -> &'a [u8]
-        requires { CanView self.now.kinds self.now.memory (slice_get (cells_in (slice_get self.now.memory block)) cell) length }
+        requires cells { IsOfCells (slice_get self.now.kinds block) }
+        requires bytes { CanView self.now.kinds self.now.memory (slice_get (cells_in (slice_get self.now.memory block)) cell) length }
         ensures { result.now ≡ viewed self.now.memory (slice_get (cells_in (slice_get self.now.memory block)) cell) length }
     {
         match self.cells(block).get(cell as usize) {

@@ -1,5 +1,4 @@
-use Rattle.std.proofs.Common.{◌≡◌, ◌<◌, ◌+◌, suc, length, arith, ap, sym, ◌∙◌}
-use Rattle.std.specs.Prelude.{bytes_eq}
+use Rattle.std.proofs.Common.{◌<◌, ◌+◌, length, arith, sym, ◌∙◌}
 use Rattle.ecd_ceval.proofs.Writing.{no_more, first_here}
 use Rattle.ecd_ceval.proofs.blocks.place_of.Goals as goal
 

@@ -1,4 +1,4 @@
-use Rattle.std.proofs.Common.{◌≡◌, ◌<◌, length, arith, refl}
+use Rattle.std.proofs.Common.{refl}
 use Rattle.ecd_ceval.proofs.Writing.{byte_written}
 use Rattle.ecd_ceval.proofs.blocks.write_byte.Goals as goal
 

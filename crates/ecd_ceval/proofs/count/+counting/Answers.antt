@@ -1,5 +1,4 @@
-use Rattle.std.proofs.Common.{◌≡◌, ◌+◌, arith}
-use Rattle.ecd_cast.specs.Laws.{count_all}
+use Rattle.std.proofs.Common.{◌+◌, arith}
 use Rattle.ecd_ceval.proofs.Counting.{count-If, count-For, count_more}
 use Rattle.ecd_ceval.proofs.count.+counting.Goals as goal
 

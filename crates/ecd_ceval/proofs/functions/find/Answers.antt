@@ -1,4 +1,4 @@
-use Rattle.std.proofs.Common.{◌≡◌, ◌<◌, ◌≤◌, ◌+◌, ◌-◌, length, arith, sym, ◌∙◌, ap}
+use Rattle.std.proofs.Common.{◌<◌, ◌-◌, length, arith, sym, ◌∙◌, ap}
 use Rattle.std.specs.Prelude.{Some}
 use Rattle.std.proofs.lemmas.Option.{slice_get-get_or}
 use Rattle.ecd_ceval.proofs.Calling.{meant_here, meant_before, struct_before}

@@ -1,4 +1,4 @@
-use Rattle.std.proofs.Common.{◌≡◌, [], ◌∷◌, ◌+◌, ◌-◌, suc, take, true, false, arith}
+use Rattle.std.proofs.Common.{◌≡◌, [], ◌+◌, ◌-◌, suc, take, true, false, arith}
 use Rattle.std.proofs.lemmas.Result.{err_from_is_err_and}
 use Rattle.ecd_cast.specs.declared.value.Value.TheVariants.{Truth}
 use Rattle.ecd_cast.specs.Expressions.{Gives, value_of}

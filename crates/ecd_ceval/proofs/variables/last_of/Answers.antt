@@ -1,4 +1,4 @@
-use Rattle.std.proofs.Common.{◌≡◌, ◌<◌, ◌-◌, suc, length, drop, arith, refl, sym, ap, subst, ◌∙◌}
+use Rattle.std.proofs.Common.{◌≡◌, ◌<◌, ◌-◌, suc, length, drop, arith, refl, sym, subst, ◌∙◌}
 use Rattle.ecd_ceval.specs.Scopes.{IsFree}
 use Rattle.ecd_ceval.proofs.Slots.{last_here}
 use Rattle.ecd_ceval.proofs.variables.last_of.Goals as goal

@@ -1,6 +1,6 @@
 use Rattle.ecd_cast.specs.Validity.{structs_of}
 use Rattle.ecd_ceval.specs.Blocks.{memory_of}
-use Rattle.ecd_ceval.proofs.Answering.{prepared_none, prepared_next, next_numbered}
+use Rattle.ecd_ceval.proofs.Answering.{prepared_next, next_numbered}
 use Rattle.ecd_ceval.proofs.machine.Machine.prepare.Goals as goal
 
 pub loop-block-preserved : goal.loop-block-preserved

@@ -1,4 +1,4 @@
-use Rattle.std.proofs.Common.{◌≡◌, ◌<◌, length, arith, refl, sym, ◌∙◌, []}
+use Rattle.std.proofs.Common.{◌≡◌, length, arith, refl, sym, []}
 use Rattle.ecd_ceval.specs.declared.variables.Slot.TheVariants.{Variable}
 use Rattle.ecd_ceval.proofs.Slots.{within_last, assign_found, assign_free}
 use Rattle.ecd_ceval.proofs.variables.Variables.assign.Goals as goal

@@ -1,5 +1,3 @@
-use Rattle.std.proofs.Common.{[], ◌∷◌}
-use Rattle.ecd_ceval.specs.declared.variables.Slot.TheVariants.{Opened}
 use Rattle.ecd_ceval.proofs.Slots.{scopes-push}
 use Rattle.ecd_ceval.proofs.variables.Variables.enter.Goals as goal
 

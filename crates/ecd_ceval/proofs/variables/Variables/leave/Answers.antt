@@ -1,6 +1,5 @@
-use Rattle.std.proofs.Common.{◌≡◌, refl, ap, sym, ◌∙◌, [], ◌∷◌, ◌++◌}
+use Rattle.std.proofs.Common.{ap, sym, ◌∙◌, []}
 use Rattle.ecd_cast.specs.Meaning.{leave}
-use Rattle.ecd_ceval.specs.declared.variables.Slot.{Slot}
 use Rattle.ecd_ceval.specs.declared.variables.Slot.TheVariants.{Opened, Variable}
 use Rattle.ecd_ceval.specs.Scopes.{scopes_of}
 use Rattle.ecd_ceval.proofs.Slots.{scopes-push, leave-declare}
