@@ -1,4 +1,4 @@
--- Reading the lexemes of a program from left to right, up to the first that cannot be taken. Two lexemes decide which form stands somewhere.
+-- Reading the lexemes of a program from left to right, up to the first that cannot be taken. The first lexeme of a form, or the one behind its name, decides which form it is.
 use Rattle.std.specs.Prelude.{ℕ, zero, suc, ◌-◌, ◌^◌, Bool, true, false, not, ◌&&◌, List, [], ◌∷◌, length, take, drop, Option, Some, None, Result, Ok, Err, is_some, nat_lt, codes, bytes_eq, if◌then◌else◌}
 use Rattle.std.specs.Str.Parse.{digits_value}
 use Rattle.ecd_cast.specs.declared.tree.Op.{Op}
