@@ -119,7 +119,7 @@ module _ (order : Order) (o : Option Value) (item : Item) (r : Result Bool OutOf
   pub tag_same : (n m : ℕ) (s : Shape) (x : Item) → item ≡ i.Tag m x → m < 2 ^ 64 → m ≡ n → Tells r (Asked o (HasValue order s x)) → Tells r (Asked o (Gives order (k.Tag n s) item))
   tag_same n m s x e lt same t =
       tells_as r t (asked_map o _ _ (λ w h. bwd (layers.Gives-Tag order n s item w) (x, e ∙ ap (λ (j : ℕ). i.Tag j x) same, subst (λ (j : ℕ). j < 2 ^ 64) same lt, h)))
-          (asked_map o _ _ (λ w g'. let g = fwd (layers.Gives-Tag order n s item w) g' in subst (λ (y : Item). HasValue order s y w) (sym (tag_alike m n x g.0 (sym e ∙ g.1)).1) g.3))
+      (asked_map o _ _ (λ w g'. let g = fwd (layers.Gives-Tag order n s item w) g' in subst (λ (y : Item). HasValue order s y w) (sym (tag_alike m n x g.0 (sym e ∙ g.1)).1) g.3))
 
   pub any_tag_none : (s : Shape) → ((m : ℕ) (x : Item) → item ≡ i.Tag m x → ⊥) → IsTrue false ↔ Asked o (Gives order (k.AnyTag s) item)
   any_tag_none s none = asked_none o _ (λ w g'. let g = fwd (layers.Gives-AnyTag order s item w) g' in none g.0 g.1 g.3)
@@ -127,7 +127,7 @@ module _ (order : Order) (o : Option Value) (item : Item) (r : Result Bool OutOf
   pub any_tag_some : (s : Shape) (n : ℕ) (x : Item) → item ≡ i.Tag n x → n < 2 ^ 64 → o ≡ None → Tells r ((one : Value) × HasValue order s x one) → Tells r (Asked o (Gives order (k.AnyTag s) item))
   any_tag_some s n x e lt asked t =
       asked_any r o _ asked (tells_as r t (λ h. (v.Tagged n h.0, bwd (layers.Gives-AnyTag order s item (v.Tagged n h.0)) (n, x, h.0, e, lt, refl, h.1)))
-          (λ a. let g = fwd (layers.Gives-AnyTag order s item a.0) a.1 in (g.2, subst (λ (y : Item). HasValue order s y g.2) (sym (tag_alike n g.0 x g.1 (sym e ∙ g.3)).1) g.6)))
+      (λ a. let g = fwd (layers.Gives-AnyTag order s item a.0) a.1 in (g.2, subst (λ (y : Item). HasValue order s y g.2) (sym (tag_alike n g.0 x g.1 (sym e ∙ g.3)).1) g.6)))
 
   pub any_tag_other : (s : Shape) (w : Value) → o ≡ Some w → ((n : ℕ) (one : Value) → w ≡ v.Tagged n one → ⊥) → IsTrue false ↔ Asked o (Gives order (k.AnyTag s) item)
   any_tag_other s w asked none = asked_not o w _ asked (λ g'. let g = fwd (layers.Gives-AnyTag order s item w) g' in none g.0 g.2 g.5)
@@ -139,8 +139,8 @@ module _ (order : Order) (o : Option Value) (item : Item) (r : Result Bool OutOf
   pub any_tag_one : (s : Shape) (n m : ℕ) (x : Item) (w one : Value) → item ≡ i.Tag n x → n < 2 ^ 64 → o ≡ Some w → w ≡ v.Tagged m one → m ≡ n → Tells r (HasValue order s x one) → Tells r (Asked o (Gives order (k.AnyTag s) item))
   any_tag_one s n m x w one e lt asked is same t =
       asked_one r o w _ asked (tells_as r t (λ h. bwd (layers.Gives-AnyTag order s item w) (n, x, one, e, lt, is ∙ ap (λ (j : ℕ). v.Tagged j one) same, h))
-          (λ g'. let g = fwd (layers.Gives-AnyTag order s item w) g' in
-              subst (λ (y : Item). HasValue order s y one) (sym (tag_alike n g.0 x g.1 (sym e ∙ g.3)).1) (subst (λ (u : Value). HasValue order s g.1 u) (sym (tagged_alike m g.0 one g.2 (sym is ∙ g.5)).1) g.6)))
+      (λ g'. let g = fwd (layers.Gives-AnyTag order s item w) g' in
+      subst (λ (y : Item). HasValue order s y one) (sym (tag_alike n g.0 x g.1 (sym e ∙ g.3)).1) (subst (λ (u : Value). HasValue order s g.1 u) (sym (tagged_alike m g.0 one g.2 (sym is ∙ g.5)).1) g.6)))
 
   -- ---- encodings in byte strings
   pub cbor_none : (s : Shape) → ((bs : List ℕ) → item ≡ i.Bytes bs → ⊥) → IsTrue false ↔ Asked o (Gives order (k.Cbor s) item)
@@ -152,16 +152,16 @@ module _ (order : Order) (o : Option Value) (item : Item) (r : Result Bool OutOf
   pub cbor_one : (s : Shape) (bs : List ℕ) (x : Item) → item ≡ i.Bytes bs → IsValid order x → bs ≡ encoding x → Tells r (Asked o (HasValue order s x)) → Tells r (Asked o (Gives order (k.Cbor s) item))
   cbor_one s bs x e valid is t =
       tells_as r t (asked_map o _ _ (λ w h. bwd (layers.Gives-Cbor order s item w) (x, e ∙ ap (λ (y : List ℕ). i.Bytes y) is, valid, h)))
-          (asked_map o _ _ (λ w g'. let g = fwd (layers.Gives-Cbor order s item w) g' in
-              let same : bs ≡ encoding g.0 = cc (sym e ∙ g.1) in
-              subst (λ (y : Item). HasValue order s y w) (same_encoding order g.0 x g.2 valid (sym same ∙ is)) g.3))
+      (asked_map o _ _ (λ w g'. let g = fwd (layers.Gives-Cbor order s item w) g' in
+      let same : bs ≡ encoding g.0 = cc (sym e ∙ g.1) in
+      subst (λ (y : Item). HasValue order s y w) (same_encoding order g.0 x g.2 valid (sym same ∙ is)) g.3))
 
   -- ---- choices
   pub choice_some : (ss : List Shape) → o ≡ None → Tells r (HasSome (λ (s : Shape). (one : Value) × HasValue order s item one) ss) → Tells r (Asked o (Gives order (k.Choice ss) item))
   choice_some ss asked t =
       asked_any r o _ asked (tells_as r t
-          (λ h. let a = some_at (λ (s : Shape) (one : Value). HasValue order s item one) ss h in (v.Way a.0 a.1, bwd (layers.Gives-Choice order ss item (v.Way a.0 a.1)) (a.0, a.1, refl, a.2)))
-          (λ a. let g = fwd (layers.Gives-Choice order ss item a.0) a.1 in at_some (λ (s : Shape) (one : Value). HasValue order s item one) ss g.0 g.1 g.3))
+      (λ h. let a = some_at (λ (s : Shape) (one : Value). HasValue order s item one) ss h in (v.Way a.0 a.1, bwd (layers.Gives-Choice order ss item (v.Way a.0 a.1)) (a.0, a.1, refl, a.2)))
+      (λ a. let g = fwd (layers.Gives-Choice order ss item a.0) a.1 in at_some (λ (s : Shape) (one : Value). HasValue order s item one) ss g.0 g.1 g.3))
 
   pub choice_other : (ss : List Shape) (w : Value) → o ≡ Some w → ((n : ℕ) (one : Value) → w ≡ v.Way n one → ⊥) → IsTrue false ↔ Asked o (Gives order (k.Choice ss) item)
   choice_other ss w asked none = asked_not o w _ asked (λ g'. let g = fwd (layers.Gives-Choice order ss item w) g' in none g.0 g.1 g.2)
@@ -173,9 +173,9 @@ module _ (order : Order) (o : Option Value) (item : Item) (r : Result Bool OutOf
   pub choice_one : (ss : List Shape) (n : ℕ) (s : Shape) (w one : Value) → o ≡ Some w → w ≡ v.Way n one → slice_get ss n ≡ Some s → Tells r (HasValue order s item one) → Tells r (Asked o (Gives order (k.Choice ss) item))
   choice_one ss n s w one asked is there t =
       asked_one r o w _ asked (tells_as r t (λ h. bwd (layers.Gives-Choice order ss item w) (n, one, is, get_at (λ (x : Shape). HasValue order x item one) ss n s there h))
-          (λ g'. let g = fwd (layers.Gives-Choice order ss item w) g' in
-              let same = ways_alike n g.0 one g.1 (sym is ∙ g.2) in
-              subst (HasValue order s item) (sym same.1) (at_get (λ (x : Shape). HasValue order x item g.1) ss g.0 s (ap (slice_get ss) (sym same.0) ∙ there) g.3)))
+      (λ g'. let g = fwd (layers.Gives-Choice order ss item w) g' in
+      let same = ways_alike n g.0 one g.1 (sym is ∙ g.2) in
+      subst (HasValue order s item) (sym same.1) (at_get (λ (x : Shape). HasValue order x item g.1) ss g.0 s (ap (slice_get ss) (sym same.0) ∙ there) g.3)))
 
   -- ---- arrays
   pub array_none : (g : Group) → ((xs : List Item) → item ≡ i.Array xs → ⊥) → IsTrue false ↔ Asked o (Gives order (k.Array g) item)
@@ -184,7 +184,7 @@ module _ (order : Order) (o : Option Value) (item : Item) (r : Result Bool OutOf
   pub array_some : (g : Group) (xs : List Item) → item ≡ i.Array xs → o ≡ None → Tells r ((values : List Value) × PartsHave order g.parts xs values) → Tells r (Asked o (Gives order (k.Array g) item))
   array_some g xs e asked t =
       asked_any r o _ asked (tells_as r t (λ h. (v.Group h.0, bwd (layers.Gives-Array order g item (v.Group h.0)) (xs, h.0, e, refl, h.1)))
-          (λ a. let h = fwd (layers.Gives-Array order g item a.0) a.1 in (h.1, subst (λ (y : List Item). PartsHave order g.parts y h.1) (array_alike h.0 xs (sym h.2 ∙ e)) h.4)))
+      (λ a. let h = fwd (layers.Gives-Array order g item a.0) a.1 in (h.1, subst (λ (y : List Item). PartsHave order g.parts y h.1) (array_alike h.0 xs (sym h.2 ∙ e)) h.4)))
 
   pub array_other : (g : Group) (w : Value) → o ≡ Some w → ((values : List Value) → w ≡ v.Group values → ⊥) → IsTrue false ↔ Asked o (Gives order (k.Array g) item)
   array_other g w asked none = asked_not o w _ asked (λ a. let h = fwd (layers.Gives-Array order g item w) a in none h.1 h.3)
@@ -192,8 +192,8 @@ module _ (order : Order) (o : Option Value) (item : Item) (r : Result Bool OutOf
   pub array_group : (g : Group) (xs : List Item) (w : Value) (values : List Value) → item ≡ i.Array xs → o ≡ Some w → w ≡ v.Group values → Tells r (PartsHave order g.parts xs values) → Tells r (Asked o (Gives order (k.Array g) item))
   array_group g xs w values e asked is t =
       asked_one r o w _ asked (tells_as r t (λ h. bwd (layers.Gives-Array order g item w) (xs, values, e, is, h))
-          (λ a. let h = fwd (layers.Gives-Array order g item w) a in
-              subst (λ (y : List Item). PartsHave order g.parts y values) (array_alike h.0 xs (sym h.2 ∙ e)) (subst (PartsHave order g.parts h.0) (groups_alike h.1 values (sym h.3 ∙ is)) h.4)))
+      (λ a. let h = fwd (layers.Gives-Array order g item w) a in
+      subst (λ (y : List Item). PartsHave order g.parts y values) (array_alike h.0 xs (sym h.2 ∙ e)) (subst (PartsHave order g.parts h.0) (groups_alike h.1 values (sym h.3 ∙ is)) h.4)))
 
 -- ---- splits
 
@@ -217,17 +217,17 @@ module _ (order : Order) (items : List Item) (r : Result Bool OutOfMemory) where
       → Tells r (Split 0 items (λ front. (one : Value) × PartGives order part front one) (λ back. (others : List Value) × PartsHave order rest back others)) → Tells r (Asked o (PartsHave order parts items))
   parts_any parts part rest o e asked t =
       asked_any r o _ asked (subst (λ (l : List Part). Tells r ((values : List Value) × PartsHave order l items values)) (sym e)
-          (tells_as r t (λ s. let h = split_in (λ front. (one : Value) × PartGives order part front one) (λ back. (others : List Value) × PartsHave order rest back others) items s in (h.3.0 ∷ h.4.0, (h.0, h.1, h.3.0, h.4.0, h.2, refl, h.3.1, h.4.1)))
-              (λ a. let h = a.1 in in_split (λ front. (one : Value) × PartGives order part front one) (λ back. (others : List Value) × PartsHave order rest back others) 0 items h.0 h.1 h.4 (omega arith) (h.2, h.6) (h.3, h.7))))
+      (tells_as r t (λ s. let h = split_in (λ front. (one : Value) × PartGives order part front one) (λ back. (others : List Value) × PartsHave order rest back others) items s in (h.3.0 ∷ h.4.0, (h.0, h.1, h.3.0, h.4.0, h.2, refl, h.3.1, h.4.1)))
+      (λ a. let h = a.1 in in_split (λ front. (one : Value) × PartGives order part front one) (λ back. (others : List Value) × PartsHave order rest back others) 0 items h.0 h.1 h.4 (omega arith) (h.2, h.6) (h.3, h.7))))
 
   pub parts_one : (parts : List Part) (part : Part) (rest : List Part) (o : Option (List Value)) (values : List Value) (one : Value) (others : List Value) → parts ≡ part ∷ rest → o ≡ Some values → values ≡ one ∷ others
       → Tells r (Split 0 items (λ front. PartGives order part front one) (λ back. PartsHave order rest back others)) → Tells r (Asked o (PartsHave order parts items))
   parts_one parts part rest o values one others e asked is t =
       asked_one r o values _ asked (subst (λ (l : List Part). Tells r (PartsHave order l items values)) (sym e)
-          (tells_as r t (λ s. let h = split_in (λ front. PartGives order part front one) (λ back. PartsHave order rest back others) items s in (h.0, h.1, one, others, h.2, is, h.3, h.4))
-              (λ h. let first : h.2 ≡ one = cc (sym h.5 ∙ is) in
-                    let rest' : h.3 ≡ others = cc (sym h.5 ∙ is) in
-                    in_split (λ front. PartGives order part front one) (λ back. PartsHave order rest back others) 0 items h.0 h.1 h.4 (omega arith) (subst (PartGives order part h.0) first h.6) (subst (PartsHave order rest h.1) rest' h.7))))
+      (tells_as r t (λ s. let h = split_in (λ front. PartGives order part front one) (λ back. PartsHave order rest back others) items s in (h.0, h.1, one, others, h.2, is, h.3, h.4))
+      (λ h. let first : h.2 ≡ one = cc (sym h.5 ∙ is) in
+      let rest' : h.3 ≡ others = cc (sym h.5 ∙ is) in
+      in_split (λ front. PartGives order part front one) (λ back. PartsHave order rest back others) 0 items h.0 h.1 h.4 (omega arith) (subst (PartGives order part h.0) first h.6) (subst (PartsHave order rest h.1) rest' h.7))))
 
   -- ---- parts
   module _ (o : Option Value) where
@@ -240,7 +240,7 @@ module _ (order : Order) (items : List Item) (r : Result Bool OutOfMemory) where
     pub one_item : (s : Shape) (x : Item) (rest : List Item) → items ≡ x ∷ rest → rest ≡ [] → Tells r (Asked o (HasValue order s x)) → Tells r (Asked o (PartGives order (p.One s) items))
     one_item s x rest e is t =
         tells_as r t (asked_map o _ _ (λ w h. bwd (layers.PartGives-One order s items w) (x, e ∙ ap (λ (l : List Item). x ∷ l) is, h)))
-            (asked_map o _ _ (λ w a. let h = fwd (layers.PartGives-One order s items w) a in let f : h.0 ≡ x = cc (sym h.1 ∙ e) in subst (λ (y : Item). HasValue order s y w) f h.2))
+        (asked_map o _ _ (λ w a. let h = fwd (layers.PartGives-One order s items w) a in let f : h.0 ≡ x = cc (sym h.1 ∙ e) in subst (λ (y : Item). HasValue order s y w) f h.2))
 
     pub opt_empty : (at : ℕ) (g : Group) → o ≡ None → items ≡ [] → IsTrue true ↔ Asked o (PartGives order (p.Opt at g) items)
     opt_empty at g asked e = (λ _. subst (λ (q : Option Value). Asked q (PartGives order (p.Opt at g) items)) (sym asked) (v.Absent, bwd (layers.PartGives-Opt order at g items v.Absent) (inl (e, refl))), λ _. refl)
@@ -248,7 +248,7 @@ module _ (order : Order) (items : List Item) (r : Result Bool OutOfMemory) where
     pub opt_some : (at : ℕ) (g : Group) → o ≡ None → (items ≡ [] → ⊥) → Tells r ((values : List Value) × PartsHave order g.parts items values) → Tells r (Asked o (PartGives order (p.Opt at g) items))
     opt_some at g asked none t =
         asked_any r o _ asked (tells_as r t (λ h. (v.Present (v.Group h.0), bwd (layers.PartGives-Opt order at g items (v.Present (v.Group h.0))) (inr (h.0, refl, h.1))))
-            (λ a. from (fwd (layers.PartGives-Opt order at g items a.0) a.1)))
+        (λ a. from (fwd (layers.PartGives-Opt order at g items a.0) a.1)))
       where
         from : {w : Value} → ((items ≡ []) × (w ≡ v.Absent)) ⊎ ((values : List Value) × (w ≡ v.Present (v.Group values)) × PartsHave order g.parts items values) → (values : List Value) × PartsHave order g.parts items values
         from (inl h) = absurd (none h.0)
@@ -280,9 +280,9 @@ module _ (order : Order) (items : List Item) (r : Result Bool OutOfMemory) where
     pub alt_some : (at : ℕ) (ways : List Way) → o ≡ None → Tells r (HasSome (λ (way : Way). (values : List Value) × PartsHave order way.body.parts items values) ways) → Tells r (Asked o (PartGives order (p.Alt at ways) items))
     alt_some at ways asked t =
         asked_any r o _ asked (tells_as r t
-            (λ h. let a = some_at (λ (way : Way) (values : List Value). PartsHave order way.body.parts items values) ways h in
-                (v.Way a.0 (v.Group a.1), bwd (layers.PartGives-Alt order at ways items (v.Way a.0 (v.Group a.1))) (a.0, a.1, refl, a.2)))
-            (λ a. let h = fwd (layers.PartGives-Alt order at ways items a.0) a.1 in at_some (λ (way : Way) (values : List Value). PartsHave order way.body.parts items values) ways h.0 h.1 h.3))
+        (λ h. let a = some_at (λ (way : Way) (values : List Value). PartsHave order way.body.parts items values) ways h in
+        (v.Way a.0 (v.Group a.1), bwd (layers.PartGives-Alt order at ways items (v.Way a.0 (v.Group a.1))) (a.0, a.1, refl, a.2)))
+        (λ a. let h = fwd (layers.PartGives-Alt order at ways items a.0) a.1 in at_some (λ (way : Way) (values : List Value). PartsHave order way.body.parts items values) ways h.0 h.1 h.3))
 
     pub alt_other : (at : ℕ) (ways : List Way) (w : Value) → o ≡ Some w → ((n : ℕ) (values : List Value) → w ≡ v.Way n (v.Group values) → ⊥) → IsTrue false ↔ Asked o (PartGives order (p.Alt at ways) items)
     alt_other at ways w asked none = asked_not o w _ asked (λ a. let h = fwd (layers.PartGives-Alt order at ways items w) a in none h.0 h.1 h.2)
@@ -295,14 +295,14 @@ module _ (order : Order) (items : List Item) (r : Result Bool OutOfMemory) where
         → Tells r (PartsHave order way.body.parts items values) → Tells r (Asked o (PartGives order (p.Alt at ways) items))
     alt_one at ways n way w values asked is there t =
         asked_one r o w _ asked (tells_as r t (λ h. bwd (layers.PartGives-Alt order at ways items w) (n, values, is, get_at (λ (x : Way). PartsHave order x.body.parts items values) ways n way there h))
-            (λ a. let h = fwd (layers.PartGives-Alt order at ways items w) a in
-                let same = ways_alike n h.0 (v.Group values) (v.Group h.1) (sym is ∙ h.2) in
-                subst (PartsHave order way.body.parts items) (sym (groups_alike values h.1 same.1)) (at_get (λ (x : Way). PartsHave order x.body.parts items h.1) ways h.0 way (ap (slice_get ways) (sym same.0) ∙ there) h.3)))
+        (λ a. let h = fwd (layers.PartGives-Alt order at ways items w) a in
+        let same = ways_alike n h.0 (v.Group values) (v.Group h.1) (sym is ∙ h.2) in
+        subst (PartsHave order way.body.parts items) (sym (groups_alike values h.1 same.1)) (at_get (λ (x : Way). PartsHave order x.body.parts items h.1) ways h.0 way (ap (slice_get ways) (sym same.0) ∙ there) h.3)))
 
     pub many_some : (at lo hi : ℕ) (g : Group) → o ≡ None → Tells r (RunsFit (PartsHave order g.parts) lo hi items) → Tells r (Asked o (PartGives order (p.Many at lo hi g) items))
     many_some at lo hi g asked t =
         asked_any r o _ asked (tells_as r t (λ h. (v.Many (map run_value h.0), bwd (layers.PartGives-Many order at lo hi g items (v.Many (map run_value h.0))) (h.0, h.1, refl, h.2, h.3)))
-            (λ a. let h = fwd (layers.PartGives-Many order at lo hi g items a.0) a.1 in (h.0, h.1, h.3, h.4)))
+        (λ a. let h = fwd (layers.PartGives-Many order at lo hi g items a.0) a.1 in (h.0, h.1, h.3, h.4)))
 
     pub many_other : (at lo hi : ℕ) (g : Group) (w : Value) → o ≡ Some w → ((bodies : List Value) → w ≡ v.Many bodies → ⊥) → IsTrue false ↔ Asked o (PartGives order (p.Many at lo hi g) items)
     many_other at lo hi g w asked none = asked_not o w _ asked (λ a. let h = fwd (layers.PartGives-Many order at lo hi g items w) a in none (map run_value h.0) h.2)
@@ -318,7 +318,7 @@ module _ (order : Order) (items : List Item) (r : Result Bool OutOfMemory) where
     pub many_bodies : (at lo hi : ℕ) (g : Group) (w : Value) (bodies : List Value) → o ≡ Some w → w ≡ v.Many bodies → IsWithin lo hi (length bodies) → Tells r (RunsAre (PartsHave order g.parts) items bodies) → Tells r (Asked o (PartGives order (p.Many at lo hi g) items))
     many_bodies at lo hi g w bodies asked is within t =
         asked_one r o w _ asked (tells_as r t (λ h. bwd (layers.PartGives-Many order at lo hi g items w) (h.0, h.1, is ∙ ap (λ (l : List Value). v.Many l) h.2, subst (IsWithin lo hi) (ap length h.2 ∙ length-runs h.0) within, h.3))
-            (λ a. let h = fwd (layers.PartGives-Many order at lo hi g items w) a in (h.0, h.1, sym (manys_alike (map run_value h.0) bodies (sym h.2 ∙ is)), h.4)))
+        (λ a. let h = fwd (layers.PartGives-Many order at lo hi g items w) a in (h.0, h.1, sym (manys_alike (map run_value h.0) bodies (sym h.2 ∙ is)), h.4)))
 
 -- ---- runs
 
@@ -384,7 +384,7 @@ module _ (P : List Item → List Value → Type 0) where
   pub runs_empty : (r : Result Bool OutOfMemory) (lo hi : ℕ) (items : List Item) → items ≡ [] → (lo ≡ 0 → ⊥) → lo ≤ hi → Tells r ((values : List Value) × P items values) → Tells r (RunsFit P lo hi items)
   runs_empty r lo hi items e some le t =
       tells_as r t (λ h. (repeated h.0 lo, e ∙ sym (repeated-items h.0 lo), (omega (arith, repeated-length h.0 lo), omega (arith, repeated-length h.0 lo)), repeated-each h.0 lo (subst (λ (l : List Item). P l h.0) e h.1)))
-          (λ h. let a = all_empty h.0 (sym e ∙ h.1) h.3 (omega (arith, h.2.0, some)) in (a.0, subst (λ (l : List Item). P l a.0) (sym e) a.1))
+      (λ h. let a = all_empty h.0 (sym e ∙ h.1) h.3 (omega (arith, h.2.0, some)) in (a.0, subst (λ (l : List Item). P l a.0) (sym e) a.1))
 
   -- one run at least takes an item, and may stand in front
   pub runs_none : (lo : ℕ) (items : List Item) → (items ≡ [] → ⊥) → IsTrue false ↔ RunsFit P lo 0 items

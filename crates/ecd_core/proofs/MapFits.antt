@@ -260,7 +260,7 @@ module _ (order : Order) (pairs : List Pair) (pair : Pair) (r : Result Bool OutO
       pub takes_way : (n : ℕ) (way : List FieldMeaning) → IsTaken pairs (ways_mean order ways) n → way_of (ways_mean order ways) n ≡ way → Tells r (HasSome (λ field. Suits field pair) way) → Tells r (Takes pairs pair (meaning order entry))
       takes_way n way taken there t = subst (λ e. Tells r (Takes pairs pair e)) (sym is)
           (tells_as r t (λ h. (n, taken, subst (λ (w : List FieldMeaning). HasSome (λ field. Suits field pair) w) (sym there) h))
-              (λ h. subst (λ (w : List FieldMeaning). HasSome (λ field. Suits field pair) w) (ap (way_of (ways_mean order ways)) (sym (one_taken pairs (ways_mean order ways) n h.0 taken h.1)) ∙ there) h.2))
+          (λ h. subst (λ (w : List FieldMeaning). HasSome (λ field. Suits field pair) w) (ap (way_of (ways_mean order ways)) (sym (one_taken pairs (ways_mean order ways) n h.0 taken h.1)) ∙ there) h.2))
 
       pub blocks_none : ((n : ℕ) → IsTaken pairs (ways_mean order ways) n → ⊥) → Tells r (WayStops (length ways) (ways_mean order ways) pair) → Tells r (Blocks pairs pair (meaning order entry))
       blocks_none none t = subst (λ e. Tells r (Blocks pairs pair e)) (sym is)
@@ -269,7 +269,7 @@ module _ (order : Order) (pairs : List Pair) (pair : Pair) (r : Result Bool OutO
       pub blocks_way : (n : ℕ) → IsTaken pairs (ways_mean order ways) n → Tells r (WayStops (n + 1) (ways_mean order ways) pair) → Tells r (Blocks pairs pair (meaning order entry))
       blocks_way n taken t = subst (λ e. Tells r (Blocks pairs pair e)) (sym is)
           (tells_as r t (λ h. (h.0, record { there = h.2; reached = λ earlier lt also. let same = one_taken pairs (ways_mean order ways) n earlier taken also in omega (arith, h.1, lt, same) }, h.3))
-              (λ h. (h.0, not-after h.0 h.1, h.1.there, h.2)))
+          (λ h. (h.0, not-after h.0 h.1, h.1.there, h.2)))
         where
           not-after : (j : ℕ) → IsTried pairs (ways_mean order ways) j → j < n + 1
           not-after j tried = omega (arith, λ (h : n < j). tried.reached n h taken)

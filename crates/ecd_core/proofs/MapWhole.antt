@@ -159,8 +159,11 @@ given_out order entries pairs owners ws valid ascend all fit = record {
     cover : (p : Pair) → (x : ℕ) × OwnerFits entries pairs p x × IsIn p (owned x pairs owners) → HasSome (Takes pairs p) entries ⊎ IsInOneList (shared pairs owners 0 ws) p
     cover p (x, inl f, i') = inl f.0
     cover p (x, inr f, i') =
-        inr (x, shared_in pairs owners p 0 x ws (omega (arith, f.2, entries_long pairs owners 0 entries ws fit)) (zero_at pairs owners p x i'),
-            λ other stands. sym (owned_once order p pairs owners x other ascend i' (at_zero pairs owners p other (in_shared pairs owners p 0 other ws stands).1)))
+        inr (
+          x,
+          shared_in pairs owners p 0 x ws (omega (arith, f.2, entries_long pairs owners 0 entries ws fit)) (zero_at pairs owners p x i'),
+          λ other stands. sym (owned_once order p pairs owners x other ascend i' (at_zero pairs owners p other (in_shared pairs owners p 0 other ws stands).1)),
+        )
 
     list : (p : Pair) (number : ℕ) → (number < length ws) × IsIn p (owned (0 + number) pairs owners) → IsIn p pairs × (HasSome (Takes pairs p) entries → ⊥) × (HasSome (Blocks pairs p) entries → ⊥)
     list p number h =
@@ -212,9 +215,10 @@ fit_from order pairs owners [] [] n all same = tt
 fit_from order pairs owners [] (x ∷ xs) n all same = absurd all
 fit_from order pairs owners (e ∷ es) [] n all same = absurd all
 fit_from order pairs owners (e ∷ es) (x ∷ xs) n all same =
-    let here : owned n pairs owners ≡ x.0 = (let f : n ≡ n + 0 = omega arith in ap (λ (y : ℕ). owned y pairs owners) f) ∙ same 0 (omega arith) in
-    (subst (λ (l : List Pair). EntryFits pairs e l x.1) (sym here) (has_fits order pairs e x all.0),
-        fit_from order pairs owners es xs (n + 1) all.1 (λ j lt. (let f : (n + 1) + j ≡ n + suc j = omega arith in ap (λ (y : ℕ). owned y pairs owners) f) ∙ same (suc j) (omega (arith, lt))))
+    let here : owned n pairs owners ≡ x.0 = (let f : n ≡ n + 0 = omega arith in ap (λ (y : ℕ). owned y pairs owners) f) ∙ same 0 (omega arith) in (
+      subst (λ (l : List Pair). EntryFits pairs e l x.1) (sym here) (has_fits order pairs e x all.0),
+      fit_from order pairs owners es xs (n + 1) all.1 (λ j lt. (let f : (n + 1) + j ≡ n + suc j = omega arith in ap (λ (y : ℕ). owned y pairs owners) f) ∙ same (suc j) (omega (arith, lt))),
+    )
 
 module _ (order : Order) (entries : List EntryMeaning) (pairs : List Pair) (ws : List Value) (whole : MapHas order entries pairs ws) where
   -- the number of a pair that a field takes, or of the list in which it stands
@@ -270,8 +274,8 @@ module _ (order : Order) (entries : List EntryMeaning) (pairs : List Pair) (ws :
   owners_exist =
       let found = owners_for pairs (λ p h. h) in
       let same = λ (j : ℕ) (lt : j < length whole.each).
-          same_members order (owned j pairs found.0) (list_of whole.each j) (ascend_owned order j pairs found.0 whole.ascend) (list_ascends order pairs entries whole.each whole.has j)
-              (owned_listed found.0 found.1 j lt) (listed_owned found.0 found.1 j) in
+      same_members order (owned j pairs found.0) (list_of whole.each j) (ascend_owned order j pairs found.0 whole.ascend) (list_ascends order pairs entries whole.each whole.has j)
+      (owned_listed found.0 found.1 j lt) (listed_owned found.0 found.1 j) in
       let zeroed = λ (j : ℕ) (lt : j < length whole.each). (let f : 0 + j ≡ j = omega arith in ap (λ (y : ℕ). owned y pairs found.0) f) ∙ same j lt in
       (found.0, all_fit pairs found.0 found.1, subst (EntriesFit pairs found.0 0 entries) (sym whole.values_are) (fit_from order pairs found.0 entries whole.each 0 whole.has zeroed))
 
@@ -300,4 +304,4 @@ module _ (order : Order) (entries : List MapEntry) (item : Item) (o : Option Val
     map_values w ws ok asked group t = asked_one r o w _ asked (tells_as r t
         (λ h. bwd (layers.Gives-Map order entries item w) (pairs, ws, is, group, given_out order (entries_mean order entries) pairs h.0 ws ok.0 ok.1 h.1 h.2))
         (λ a. let g = own_pairs w a in let e = owners_exist order (entries_mean order entries) pairs g.0 g.2 in
-            (e.0, e.1, subst (EntriesFit pairs e.0 0 (entries_mean order entries)) (groups_alike g.0 ws (sym g.1 ∙ group)) e.2)))
+        (e.0, e.1, subst (EntriesFit pairs e.0 0 (entries_mean order entries)) (groups_alike g.0 ws (sym g.1 ∙ group)) e.2)))

@@ -64,7 +64,7 @@ module _ (order : Order) (item : Item) (o : Option Value) where
   unfolding Gives
   tells_bytes lo hi bs e t = reworded t (λ p. asked_map o _ _ (λ w q. (bs, e, q.0, q.1)) (asked_and (IsWithin lo hi (length bs)) o (λ w. w ≡ v.Bytes bs) p.0 p.1))
       (λ p. asked_parts (IsWithin lo hi (length bs)) o (λ w. w ≡ v.Bytes bs)
-          (asked_map o _ _ (λ w q. let same : q.0 ≡ bs = cc (sym q.1 ∙ e) in (subst (λ (x : List ℕ). IsWithin lo hi (length x)) same q.2, q.3 ∙ ap (λ (x : List ℕ). v.Bytes x) same)) p))
+      (asked_map o _ _ (λ w q. let same : q.0 ≡ bs = cc (sym q.1 ∙ e) in (subst (λ (x : List ℕ). IsWithin lo hi (length x)) same q.2, q.3 ∙ ap (λ (x : List ℕ). v.Bytes x) same)) p))
 
   pub no_bytes : (lo hi : ℕ) → ((bs : List ℕ) → item ≡ i.Bytes bs → ⊥) → IsTrue false ↔ Asked o (Gives order (k.Bytes lo hi) item)
   unfolding Gives
@@ -74,7 +74,7 @@ module _ (order : Order) (item : Item) (o : Option Value) where
   unfolding Gives
   tells_text lo hi bs e u t = reworded t (λ p. asked_map o _ _ (λ w q. (bs, e, u, q.0, q.1)) (asked_and (IsWithin lo hi (length bs)) o (λ w. w ≡ v.Bytes bs) p.0 p.1))
       (λ p. asked_parts (IsWithin lo hi (length bs)) o (λ w. w ≡ v.Bytes bs)
-          (asked_map o _ _ (λ w q. let same : q.0 ≡ bs = cc (sym q.1 ∙ e) in (subst (λ (x : List ℕ). IsWithin lo hi (length x)) same q.3, q.4 ∙ ap (λ (x : List ℕ). v.Bytes x) same)) p))
+      (asked_map o _ _ (λ w q. let same : q.0 ≡ bs = cc (sym q.1 ∙ e) in (subst (λ (x : List ℕ). IsWithin lo hi (length x)) same q.3, q.4 ∙ ap (λ (x : List ℕ). v.Bytes x) same)) p))
 
   pub bad_text : (lo hi : ℕ) (bs : List ℕ) → item ≡ i.Text bs → (IsUtf8 bs → ⊥) → IsTrue false ↔ Asked o (Gives order (k.Text lo hi) item)
   unfolding Gives

@@ -22,8 +22,8 @@ use crate::plain::forms::{
     bytes_in, group_in, is_absent, items_in, many_in, present_in, tag_in, tagged_in, way_group_in,
     way_in,
 };
-use crate::plain::pairs::map_fits;
 use crate::plain::lists::{fewer, first_of, is_empty, is_within};
+use crate::plain::pairs::map_fits;
 use crate::shape::{Kind, Part, Shape, Way};
 use crate::value::Value;
 use ecd_item::Item;
@@ -346,13 +346,7 @@ fn alt_fits(
     let Some(way) = ways.get(number) else {
         return Ok(false);
     };
-    parts_fit(
-        alloc,
-        left,
-        way.body.parts.as_slice(),
-        items,
-        Some(values),
-    )
+    parts_fit(alloc, left, way.body.parts.as_slice(), items, Some(values))
 }
 
 /// Whether the items have values under one of the ways.

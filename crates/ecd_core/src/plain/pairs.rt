@@ -13,7 +13,9 @@ ghost use Rattle.ecd_core.specs.Values.{Gives, HasValue, meaning};
 
 use crate::plain::encodings::keys_ascend;
 use crate::plain::fitting::fits;
-use crate::plain::forms::{both_in, group_in, is_absent, many_in, pairs_in, present_in, way_group_in};
+use crate::plain::forms::{
+    both_in, group_in, is_absent, many_in, pairs_in, present_in, way_group_in,
+};
 use crate::plain::keys::is_key;
 use crate::plain::lists::{fewer, first_of, is_within};
 use crate::shape::{Field, MapEntry, MapWay, Shape, Table};
@@ -205,12 +207,7 @@ fn some_field_suits(
 
 /// Whether the field stops the pair.
 #[cycle(fitting)]
-fn field_stops(
-    alloc: Global,
-    left: u32,
-    field: &Field,
-    pair: &Pair,
-) -> Result<bool, OutOfMemory>
+fn field_stops(alloc: Global, left: u32, field: &Field, pair: &Pair) -> Result<bool, OutOfMemory>
     ensures { Tells result (Stops (field_of Bytewise field.now) pair.now) }
 {
     let left = fewer(left)?;

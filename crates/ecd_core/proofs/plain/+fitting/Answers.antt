@@ -108,7 +108,6 @@ fitting::one_fits-returns t c = one_item Bytewise c.args.items.now c.fits.result
 pub fitting::opt_fits-returns-then-is_empty : goal.fitting::opt_fits-returns-then-is_empty
 fitting::opt_fits-returns-then-is_empty t c = λ at. opt_empty Bytewise c.args.items.now (Ok false) (option_copied c.args.value) at (record { parts = c.args.body.now }) (ap option_copied c.in_default.is) (c.is_empty.ensures.0 c.if-is_empty.true)
 
-
 pub fitting::opt_fits-returns-in_default-group_in : goal.fitting::opt_fits-returns-in_default-group_in
 fitting::opt_fits-returns-in_default-group_in t c = λ at. opt_other Bytewise c.args.items.now (Ok false) (option_copied c.args.value) at (record { parts = c.args.body.now }) c.in-Some.given.now c.in-Some-present_in.inner.now (ap option_copied c.in-Some.is) c.in-Some-present_in.ensures c.in_default-group_in.ensures
 

@@ -1,0 +1,5 @@
+mod arrays;
+mod build;
+mod cose;
+mod maps;
+mod shapes;
