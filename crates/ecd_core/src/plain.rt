@@ -1,4 +1,4 @@
-//! A plain, slow program that decides what the definitions say. Tests run it over tables of rows; no other crate calls it.
+//! A plain, slow program that decides what the definitions say, so that they can be tried on rows. No other crate calls it.
 
 ghost use Rattle.ecd_core.specs.declared.value.Value.{Value as AValue};
 ghost use Rattle.ecd_keyorder.specs.declared.Order.TheVariants.{Bytewise};

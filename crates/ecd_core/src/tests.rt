@@ -1,5 +1,0 @@
-mod arrays;
-mod build;
-mod cose;
-mod maps;
-mod shapes;
