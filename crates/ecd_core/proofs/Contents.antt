@@ -1,24 +1,19 @@
 -- What bytes in a byte string are the encoding of.
-use Rattle.std.proofs.Common.{◌≡◌, ℕ, ◌+◌, ◌<◌, ◌≤◌, ◌⊎◌, inl, inr, max, List, [], ◌∷◌, ◌++◌, length, map, drop, Result, Ok, Err, refl, ap, sym, ◌∙◌, subst, arith, append-nil, length-append, ◌↔◌, Bool, true, false, IsTrue, IfOk}
+use Rattle.std.proofs.Common.{◌≡◌, ℕ, ◌≤◌, inl, inr, List, [], ◌∷◌, ◌++◌, length, map, Result, Ok, Err, refl, ap, sym, ◌∙◌, arith, append-nil, length-append}
 use Rattle.std.proofs.lemmas.Bool.Decides.{nat_tests}
 use Rattle.ecd_head.specs.Head.{head_bytes}
 use Rattle.ecd_head.specs.Place.{StandsAt}
 use Rattle.ecd_item.specs.declared.item.Item.{Item}
-use Rattle.ecd_item.specs.declared.item.Item.TheVariants as i
 use Rattle.ecd_item.specs.declared.item.Pair.{Pair}
 use Rattle.ecd_item.specs.declared.fault.ItemFault.{ItemFault}
 use Rattle.ecd_item.specs.declared.fault.ItemFault.TheVariants as f
-use Rattle.ecd_item.specs.Encoding.{encoding, pair_bytes, joined, key_bytes}
-use Rattle.ecd_item.specs.Valid.{IsValid, IsWhole, depth, Ascend}
+use Rattle.ecd_item.specs.Encoding.{encoding, pair_bytes, joined}
+use Rattle.ecd_item.specs.Valid.{IsValid, IsWhole, depth}
 use Rattle.ecd_item.specs.FirstFault.{Answers}
 use Rattle.ecd_item.proofs.Layers as layers
 use Rattle.ecd_item.proofs.Clauses.{begins_with_one_item}
 use Rattle.std.specs.List.{AllByRecursion}
-use Rattle.ecd_keyorder.specs.declared.Order.{Order}
 use Rattle.ecd_keyorder.specs.declared.Order.TheVariants.{Bytewise}
-use Rattle.ecd_keyorder.specs.Order.{IsBefore}
-use Rattle.ecd_core.specs.Lists.{Each}
-use Rattle.ecd_core.proofs.Telling.{no_true}
 
 head_some : (major n : ℕ) → 1 ≤ length (head_bytes major n)
 unfolding head_bytes

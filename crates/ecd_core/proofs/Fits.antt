@@ -1,6 +1,5 @@
 -- What the answers of plain functions tell of a shape, from what those for its parts tell.
-use Rattle.std.proofs.Common.{◌≡◌, ℕ, zero, suc, ◌+◌, ◌-◌, ◌<◌, ◌≤◌, ◌^◌, ◌⊎◌, inl, inr, ◌↔◌, Bool, true, false, IsTrue, Option, Some, None, Result, Ok, Err, slice_get, get_or, List, [], ◌∷◌, ◌++◌, length, map, take, drop, refl, ap, sym, ◌∙◌, subst, arith, length-append, take-append-drop, length-take}
-use Rattle.std.specs.Prelude.{IfOk}
+use Rattle.std.proofs.Common.{◌≡◌, ℕ, zero, suc, ◌+◌, ◌-◌, ◌<◌, ◌≤◌, ◌^◌, ◌⊎◌, inl, inr, ◌↔◌, Bool, true, false, IsTrue, Option, Some, None, Result, Ok, Err, slice_get, get_or, List, [], ◌∷◌, ◌++◌, length, map, take, drop, refl, ap, sym, ◌∙◌, subst, arith, length-append, take-append-drop}
 use Rattle.ecd_list.specs.declared.memory.OutOfMemory.{OutOfMemory}
 use Rattle.ecd_keyorder.specs.declared.Order.{Order}
 use Rattle.ecd_item.specs.declared.item.Item.{Item, out-Item}
@@ -9,7 +8,6 @@ use Rattle.ecd_item.specs.declared.item.Item.TheOpen as io
 use Rattle.ecd_item.specs.declared.item.Pair.{Pair}
 use Rattle.ecd_item.specs.Encoding.{encoding}
 use Rattle.ecd_item.specs.Valid.{IsValid}
-use Rattle.ecd_core.specs.declared.shape.Kind.{Kind}
 use Rattle.ecd_core.specs.declared.shape.Kind.TheVariants as k
 use Rattle.ecd_core.specs.declared.shape.Shape.{Shape}
 use Rattle.ecd_core.specs.declared.shape.Group.{Group}
@@ -25,7 +23,7 @@ use Rattle.ecd_core.specs.Splits.{Split, RunsAre, RunsFit}
 use Rattle.ecd_core.specs.Values.{Gives, HasValue, PartGives, IsWithin, Run, run_items, run_value}
 use Rattle.ecd_core.proofs.Layers as layers
 use Rattle.ecd_core.proofs.OneItem.{same_encoding}
-use Rattle.ecd_core.proofs.Telling.{never, reworded, asked_map, asked_some, no_true}
+use Rattle.ecd_core.proofs.Telling.{never, reworded, asked_map, asked_some}
 use Rattle.ecd_core.proofs.ValueLayers.{ways_alike, tagged_alike, groups_alike, manys_alike, presents_alike, absent_present}
 
 pub fwd : {A B : Type 0} → A ≡ B → A → B

@@ -1,7 +1,7 @@
 -- Keys of fields, and what plain answers tell of them.
-use Rattle.std.proofs.Common.{◌≡◌, ℕ, ◌<◌, ◌≤◌, ◌^◌, ◌⊎◌, inl, inr, ◌↔◌, Bool, true, false, ◌&&◌, ◌||◌, cond, eqb, ltb, nat_lt, nat_le, IsTrue, Option, Some, None, List, refl, ap, sym, ◌∙◌, subst, arith}
+use Rattle.std.proofs.Common.{◌≡◌, ℕ, ◌<◌, ◌≤◌, ◌^◌, ◌⊎◌, ◌↔◌, Bool, true, false, ◌&&◌, ◌||◌, eqb, nat_lt, nat_le, IsTrue, Some, List, refl, ap, sym, ◌∙◌, subst, arith}
 use Rattle.std.specs.Str.{IsUtf8, is_utf8}
-use Rattle.std.proofs.lemmas.Bool.{lt-ltb, eqb-true, eqb-false}
+use Rattle.std.proofs.lemmas.Bool.{lt-ltb, eqb-false}
 use Rattle.std.proofs.lemmas.Bool.Decides.{nat_tests}
 use Rattle.ecd_keyorder.specs.declared.Order.{Order}
 use Rattle.ecd_item.specs.declared.item.Item.{Item}
@@ -11,7 +11,7 @@ use Rattle.ecd_core.specs.declared.shape.Kind.TheVariants as k
 use Rattle.ecd_core.specs.declared.value.Value.{Value}
 use Rattle.ecd_core.specs.declared.value.Value.TheVariants as v
 use Rattle.ecd_core.specs.Values.{Gives, literal, key_of, numbered}
-use Rattle.ecd_core.proofs.Telling.{reworded, never, no_true}
+use Rattle.ecd_core.proofs.Telling.{reworded, no_true}
 
 some_item : (b : Bool) (x y : Item) → literal b x ≡ Some y → (b ≡ true) × (x ≡ y)
 some_item true x y e = (refl, cc)

@@ -1,32 +1,27 @@
 -- What the answers of plain functions tell of a map, from what those for its entries tell.
-use Rattle.std.proofs.Common.{◌≡◌, ℕ, zero, suc, ◌+◌, ◌<◌, ◌≤◌, ◌⊎◌, inl, inr, ◌↔◌, Bool, true, false, not, cond, eqb, nat_lt, IsTrue, Option, Some, None, Result, Ok, Err, List, [], ◌∷◌, ◌++◌, length, map, get_or, refl, ap, sym, ◌∙◌, subst, arith, length-append, append_assoc, append-nil}
+use Rattle.std.proofs.Common.{◌≡◌, ℕ, zero, suc, ◌+◌, ◌<◌, ◌≤◌, inl, inr, ◌↔◌, Bool, true, false, not, cond, eqb, nat_lt, IsTrue, Option, Some, None, Result, List, [], ◌∷◌, ◌++◌, length, get_or, refl, ap, sym, ◌∙◌, subst, arith, append_assoc}
 use Rattle.std.proofs.lemmas.Bool.{lt-ltb, eqb-true, eqb-false}
 use Rattle.ecd_list.specs.declared.memory.OutOfMemory.{OutOfMemory}
 use Rattle.ecd_keyorder.specs.declared.Order.{Order}
-use Rattle.ecd_item.specs.declared.item.Item.{Item}
-use Rattle.ecd_item.specs.declared.item.Item.TheVariants as i
 use Rattle.ecd_item.specs.declared.item.Pair.{Pair}
-use Rattle.ecd_item.specs.Encoding.{key_bytes}
-use Rattle.ecd_item.specs.Valid.{Ascend, IsValid}
 use Rattle.ecd_core.specs.declared.shape.MapEntry.{MapEntry}
 use Rattle.ecd_core.specs.declared.shape.MapEntry.TheVariants as m
 use Rattle.ecd_core.specs.declared.shape.Field.{Field}
 use Rattle.ecd_core.specs.declared.shape.Table.{Table}
 use Rattle.ecd_core.specs.declared.shape.Pick.{Pick}
 use Rattle.ecd_core.specs.declared.shape.MapWay.{MapWay}
-use Rattle.ecd_core.specs.declared.shape.Kind.TheVariants as k
 use Rattle.ecd_core.specs.declared.value.Value.{Value}
 use Rattle.ecd_core.specs.declared.value.Value.TheVariants as v
 use Rattle.ecd_core.specs.Asked.{Asked, Tells}
-use Rattle.ecd_core.specs.Lists.{Each, HasSome, EachWith, IsIn}
+use Rattle.ecd_core.specs.Lists.{Each, HasSome, EachWith}
 use Rattle.ecd_core.specs.Listed.{entries_mean, fields_mean, ways_mean}
-use Rattle.ecd_core.specs.Maps.{ItemValues, FieldMeaning, EntryMeaning, AField, APick, ATable, GivesPair, Suits, Fits, Stops, NeededFit, way_of, IsTaken, IsTried, Takes, Blocks, held, FieldHas, PickHas, RowHas}
+use Rattle.ecd_core.specs.Maps.{ItemValues, FieldMeaning, EntryMeaning, APick, GivesPair, Suits, Fits, Stops, NeededFit, way_of, IsTaken, IsTried, Takes, Blocks, held, FieldHas, PickHas, RowHas}
 use Rattle.ecd_core.specs.Owners.{field_of, owned, OwnerFits, OwnersFit, SomeOwnerFits, TableFits, EntryFits, EntriesFit, WayStops}
 use Rattle.ecd_core.specs.Values.{HasValue, meaning}
 use Rattle.ecd_core.proofs.Layers as layers
 use Rattle.ecd_core.proofs.Fits.{tells_as, asked_any, asked_one, asked_none, asked_not}
-use Rattle.ecd_core.proofs.Telling.{never, reworded, asked_map, asked_some, asked_and, asked_parts, no_true}
-use Rattle.ecd_core.proofs.ValueLayers.{ways_alike, groups_alike, manys_alike, presents_alike, absent_present, absent_way}
+use Rattle.ecd_core.proofs.Telling.{never, reworded, asked_map, asked_and, asked_parts, no_true}
+use Rattle.ecd_core.proofs.ValueLayers.{ways_alike, groups_alike, manys_alike, presents_alike, absent_present}
 
 -- ---- pairs and fields
 

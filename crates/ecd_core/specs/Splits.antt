@@ -1,5 +1,5 @@
 -- Items that split in two, and into runs one after another.
-use Rattle.std.specs.Prelude.{◌≡◌, ℕ, ◌≤◌, List, [], ◌∷◌, ◌++◌, length, map, take, drop}
+use Rattle.std.specs.Prelude.{◌≡◌, ℕ, ◌≤◌, List, length, map, take, drop}
 use Rattle.ecd_item.specs.declared.item.Item.{Item}
 use Rattle.ecd_core.specs.declared.value.Value.{Value}
 use Rattle.ecd_core.specs.Lists.{Each}

@@ -1,4 +1,4 @@
-//! A plain, slow program that decides what the definitions say. Tests run it over tables of rows; no other crate calls it.
+//! A plain, slow program that decides what the definitions say, so that they can be tried on rows. No other crate calls it.
 
 ghost use Rattle.ecd_core.specs.declared.value.Value.{Value as AValue};
 ghost use Rattle.ecd_keyorder.specs.declared.Order.TheVariants.{Bytewise};
@@ -20,15 +20,15 @@ use ecd_item::Item;
 use ecd_list::OutOfMemory;
 use std::alloc::Global;
 
-/// How deep calls may nest.
-const MOST_CALLS: u32 = 1_000_000;
+/// How deep calls may nest: the stack is memory.
+const MOST_CALLS: u32 = 4_000;
 
 /// Whether the item has the value under the shape.
 ///
 /// # Errors
 ///
-/// `OutOfMemory` also where calls nest too deep, and where a string or a key is too deep to be judged: an item of more than 64 levels, or bytes in a byte string
-/// that are more than 64 and not read within 64 levels.
+/// `OutOfMemory`, also where calls nest more than 4,000 deep; where a key that is an array, map or tag is not valid within 64 levels; where an item under `Any`
+/// or `AnyOf` with a bound above 64 is not valid within 64 levels; and where more than 64 bytes under `Cbor` are no encoding of an item of at most 64 levels.
 pub fn has_value(
     alloc: Global,
     shape: &Shape,

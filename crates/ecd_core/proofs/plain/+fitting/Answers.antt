@@ -14,20 +14,19 @@ use Rattle.ecd_core.specs.Maps.{FieldMeaning, EntryMeaning, APick, GivesPair, Su
 use Rattle.ecd_core.specs.Owners.{field_of, owned, EntriesFit}
 use Rattle.ecd_core.specs.Values.{meaning}
 use Rattle.ecd_core.proofs.Layers as layers
-use Rattle.ecd_core.proofs.MapFits.{NeededFits, gives_pair, asked_more, positive, nothing, field_needed, field_optional, field_absent, field_other, field_present, each_any, each_none, each_empty, each_not, each_one, each_nil, fields_field, fields_pick, fields_table, each_step, needed_no, needed_yes, needed_free, taken_first, taken_later, taken_back, taken_nowhere, has_here, has_later, stops_free, stops_other, stops_not, way_at, way_get, ways_long, way_stops, later_stops, no_way_stops, none_stops, takes_field, takes_table, takes_none, takes_way, blocks_field, blocks_table, blocks_none, blocks_way, pick_missing, pick_free, pick_absent, pick_any, pick_other, pick_wrong, pick_one, row_no_key, row_any, row_other, row_wrong, row_one, owned_here, owned_other, owned_none, table_out, table_any, table_other, table_rows, entry_field, entry_full, entry_table, entry_pick, pick_full, entries_any, owner_taken, owner_free, owner_blocked, owner_next, means_long}
-use Rattle.std.proofs.Common.{◌≡◌, ◌-◌, List, Ok, false, ap, sym, ◌∙◌, arith, subst}
+use Rattle.ecd_core.proofs.MapFits.{NeededFits, gives_pair, asked_more, positive, nothing, field_needed, field_optional, field_absent, field_present, each_any, each_none, fields_field, each_step, needed_no, needed_yes, taken_back, has_later, way_get, later_stops, takes_field, takes_table, takes_none, takes_way, blocks_field, blocks_table, blocks_none, blocks_way, pick_free, pick_any, pick_one, row_any, row_wrong, row_one, owned_here, table_any, table_rows, entry_field, entry_full, entry_table, entry_pick, pick_full, entries_any, owner_taken, owner_free, owner_next, means_long}
+use Rattle.std.proofs.Common.{◌-◌, List, Ok, false, ap, sym, ◌∙◌, arith, subst}
 use Rattle.ecd_core.specs.Asked.{Tells}
 use Rattle.ecd_core.specs.declared.shape.Shape.{Shape}
 use Rattle.ecd_core.specs.declared.shape.Part.{Part}
 use Rattle.ecd_core.specs.declared.shape.Way.{Way}
 use Rattle.ecd_core.specs.declared.value.Value.{Value}
-use Rattle.ecd_core.specs.declared.value.Value.TheVariants as v
 use Rattle.std.specs.Option.{option_copied}
 use Rattle.ecd_keyorder.specs.declared.Order.TheVariants.{Bytewise}
 use Rattle.ecd_core.specs.Listed.{PartsHave}
 use Rattle.ecd_core.specs.Values.{HasValue}
 use Rattle.ecd_core.proofs.Telling.{no_true, never, reworded}
-use Rattle.ecd_core.proofs.Fits.{fwd, found, missed, tag_none, tag_wrong, tag_same, any_tag_none, any_tag_some, any_tag_other, any_tag_wrong, any_tag_one, cbor_none, cbor_not, cbor_one, choice_some, choice_other, choice_out, choice_one, some_more, array_none, array_some, array_other, array_group, parts_any, parts_one, one_none, one_more, one_item, opt_empty, opt_some, opt_absent, opt_other, opt_group, alt_some, alt_other, alt_out, alt_one, many_some, many_other, many_out, many_bodies, runs_other, runs_more, runs_zero, runs_never, runs_empty, runs_none, runs_first}
+use Rattle.ecd_core.proofs.Fits.{found, missed, tag_none, tag_wrong, tag_same, any_tag_none, any_tag_some, any_tag_other, any_tag_wrong, any_tag_one, cbor_none, cbor_not, cbor_one, choice_some, choice_other, choice_out, choice_one, some_more, array_none, array_some, array_other, array_group, parts_any, parts_one, one_none, one_more, one_item, opt_empty, opt_some, opt_absent, opt_other, opt_group, alt_some, alt_other, alt_out, alt_one, many_some, many_other, many_out, many_bodies, runs_other, runs_more, runs_empty, runs_first}
 use Rattle.ecd_core.proofs.plain.+fitting.Goals as goal
 
 pub fitting::tag_fits-returns-in_default : goal.fitting::tag_fits-returns-in_default

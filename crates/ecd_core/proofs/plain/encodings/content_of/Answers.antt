@@ -1,7 +1,4 @@
-use Rattle.std.specs.Option.{option_copied}
-use Rattle.std.proofs.Common.{arith, ◌≡◌, ap, sym, ◌∙◌}
-use Rattle.ecd_keyorder.specs.declared.Order.TheVariants.{Bytewise}
-use Rattle.ecd_item.specs.Encoding.{encoding}
+use Rattle.std.proofs.Common.{arith}
 use Rattle.ecd_core.proofs.plain.encodings.content_of.Goals as goal
 use Rattle.ecd_core.proofs.Contents.{goes_on, not_read}
 

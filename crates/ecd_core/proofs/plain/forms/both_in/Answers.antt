@@ -1,5 +1,4 @@
-use Rattle.std.proofs.Common.{◌≡◌, List, [], ◌∷◌, sym, ◌∙◌}
-use Rattle.ecd_core.specs.declared.value.Value.{Value}
+use Rattle.std.proofs.Common.{◌≡◌, [], ◌∷◌, sym, ◌∙◌}
 use Rattle.ecd_core.proofs.Telling.{no_true}
 use Rattle.ecd_core.proofs.ValueLayers.{groups_alike}
 use Rattle.ecd_core.proofs.plain.forms.both_in.Goals as goal
