@@ -9,7 +9,7 @@ use ecd_list::OutOfMemory;
 use std::alloc::Global;
 use std::collections::BTreeMap;
 
-/// The most statements inside each other that are walked; behind them the stack counts as used up.
+/// The most blocks, or expressions, inside each other that are walked; behind them the stack counts as used up.
 pub(crate) const MOST_LEVELS: u32 = 1_000;
 
 /// The longest chain of calls that begins with a function, and the most variables and parameters that the functions of one such chain have together.
@@ -139,7 +139,7 @@ fn stmt_declared(stmt: &Stmt, levels: u32) -> Result<u32, OutOfMemory>
 ///
 /// # Errors
 ///
-/// `OutOfMemory` where statements stand inside each other in more than `MOST_LEVELS` levels, or a number passes 2^32 - 1.
+/// `OutOfMemory` where blocks stand inside each other in more than `MOST_LEVELS` levels, or a number passes 2^32 - 1.
 pub(crate) fn function_reach(reaches: &Reaches, function: &Function) -> Result<Reach, OutOfMemory>
     ensures calls { IfOk result (λ r. r.calls ≡ 1 + block_chain (λ g. calls_in (under reaches.now g)) function.now.body) }
     ensures variables { IfOk result (λ r. r.variables ≡ variables_of function.now + block_chain (λ g. variables_in (under reaches.now g)) function.now.body) }

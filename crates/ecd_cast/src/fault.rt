@@ -4,7 +4,7 @@ use thiserror::Error;
 /// Why a program of the C subset, or a text of it, is refused.
 #[derive(Clone, Copy, Debug, PartialEq, Eq, Error)]
 pub enum CFault {
-    /// C0: the text spells no program. The first place of what no spelling has there.
+    /// C0: the text spells no program. The place of the first lexeme, or byte that begins none, that no spelling has behind those before it.
     #[error("rule C0 at byte {place}")]
     Text {
         /// The place of its first byte, from 0; or the length of the text.

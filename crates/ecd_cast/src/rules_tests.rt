@@ -1,9 +1,15 @@
 //! Each rule by a small program, and what a valid program is known to have.
 
-ghost use Rattle.std.specs.Prelude.{IfOk, ◌<◌, ◌^◌};
+ghost use Rattle.std.specs.Prelude.{IfOk, ◌<◌, ◌^◌, ◌≡◌, [], ◌∷◌, codes};
+ghost use Rattle.ecd_cast.specs.declared.tree.Expr.TheVariants.{Number as ANumber, Var as AVar};
+ghost use Rattle.ecd_cast.specs.declared.tree.Stmt.TheVariants.{Return as AReturn, Number as ADeclaration};
+ghost use Rattle.ecd_cast.specs.declared.tree.Source.TheVariants.{Call as FromCall};
+ghost use Rattle.ecd_cast.specs.declared.tree.CItem.TheVariants.{Function as AFunction};
+ghost use Rattle.ecd_cast.specs.declared.tree.ParamKind.TheVariants.{Number as ANumberParam};
 ghost use Rattle.ecd_cast.specs.Spelling.{IsName, IsSpelledExpr, IsSpelledSource, IsSpelledStmt, IsSpelledBlock, IsSpelledItem, IsSpelledProgram};
 
 use crate::build::{name, one, var};
+use crate::builder::{Builder, Valid};
 use crate::fault::CFault;
 use crate::tree::{
     CItem, CItemList, CellInfo, CellKind, Expr, ExprList, Function, Param, ParamKind, ParamList,
@@ -77,7 +83,7 @@ fn repeat(alloc: Global, text: &[u8], inside: Stmt) -> Result<Stmt, OutOfMemory>
 
 /// `return 1ull;`
 fn done() -> Stmt
-    ensures { IsSpelledStmt result }
+    ensures { result ≡ AReturn (ANumber 1) }
 {
     Stmt::Return(Expr::Number(1))
 }
@@ -437,5 +443,220 @@ fn statements_beyond_a_thousand_levels_are_too_deep(rt: HostRuntime) -> Result<(
             statement: 2
         })
     );
+    Ok(())
+}
+
+/// The fault of a program of two structs, the second without a function behind it.
+fn fault_of_structs(
+    alloc: Global,
+    first: CItem,
+    second: CItem,
+) -> Result<Option<CFault>, OutOfMemory>
+    requires first { IsSpelledItem first }
+    requires second { IsSpelledItem second }
+{
+    match validate(alloc, pair(alloc, 0, first, second)?) {
+        Ok(_) => Ok(None),
+        Err(fault) => Ok(Some(fault)),
+    }
+}
+
+/// A program of two items.
+fn pair(alloc: Global, depth: u32, first: CItem, second: CItem) -> Result<Program, OutOfMemory>
+    requires first { IsSpelledItem first }
+    requires second { IsSpelledItem second }
+    ensures { IfOk result (λ p. IsSpelledProgram p) }
+{
+    let mut items = one(alloc, first)?;
+    items.push(second)?;
+    Ok(Program { depth, items })
+}
+
+#[test]
+fn of_two_rules_at_one_statement_the_lesser_is_named(rt: HostRuntime) -> Result<(), Fail> {
+    let alloc = rt.alloc();
+    let both = declare(alloc, b"len", variable(alloc, b"m")?)?;
+    let fault = fault_of(alloc, both, done())?;
+    assert!(rt;
+        fault
+            == Some(CFault::Rule {
+                rule: 1,
+                item: 0,
+                statement: 1
+            })
+    );
+    Ok(())
+}
+
+#[test]
+fn a_function_that_is_not_known_breaks_c1(rt: HostRuntime) -> Result<(), Fail> {
+    let alloc = rt.alloc();
+    let fault = fault_of(alloc, declare_call(alloc, b"n", b"g")?, done())?;
+    assert!(rt;
+        fault
+            == Some(CFault::Rule {
+                rule: 1,
+                item: 0,
+                statement: 1
+            })
+    );
+    Ok(())
+}
+
+#[test]
+fn a_struct_that_is_not_known_breaks_c1(rt: HostRuntime) -> Result<(), Fail> {
+    let alloc = rt.alloc();
+    let fault = validate(alloc, program(alloc, 1, reader(alloc, b"read")?)?).err();
+    assert!(rt;
+        fault
+            == Some(CFault::Rule {
+                rule: 1,
+                item: 0,
+                statement: 0
+            })
+    );
+    Ok(())
+}
+
+#[test]
+fn a_loop_that_assigns_its_own_variable_breaks_c4(rt: HostRuntime) -> Result<(), Fail> {
+    let alloc = rt.alloc();
+    let fault = fault_of(alloc, repeat(alloc, b"i", clear(alloc, b"i")?)?, done())?;
+    assert!(rt;
+        fault
+            == Some(CFault::Rule {
+                rule: 4,
+                item: 0,
+                statement: 2
+            })
+    );
+    Ok(())
+}
+
+#[test]
+fn a_struct_that_is_named_twice_breaks_c6(rt: HostRuntime) -> Result<(), Fail> {
+    let alloc = rt.alloc();
+    let fault = fault_of_structs(alloc, cells(alloc)?, cells(alloc)?)?;
+    assert!(rt;
+        fault
+            == Some(CFault::Rule {
+                rule: 6,
+                item: 1,
+                statement: 0
+            })
+    );
+    Ok(())
+}
+
+#[test]
+fn a_function_that_is_named_twice_breaks_c6(rt: HostRuntime) -> Result<(), Fail> {
+    let alloc = rt.alloc();
+    let first = function(alloc, b"f", declare(alloc, b"n", Expr::Number(1))?, done())?;
+    let second = function(alloc, b"f", declare(alloc, b"n", Expr::Number(1))?, done())?;
+    let fault = validate(alloc, pair(alloc, 1, first, second)?).err();
+    assert!(rt;
+        fault
+            == Some(CFault::Rule {
+                rule: 6,
+                item: 1,
+                statement: 0
+            })
+    );
+    Ok(())
+}
+
+#[test]
+fn an_empty_program_of_depth_one_breaks_c7(rt: HostRuntime) -> Result<(), Fail> {
+    let alloc = rt.alloc();
+    let items = CItemList::new(alloc);
+    let fault = validate(alloc, Program { depth: 1, items }).err();
+    assert!(rt;
+        fault
+            == Some(CFault::Rule {
+                rule: 7,
+                item: 0,
+                statement: 0
+            })
+    );
+    Ok(())
+}
+
+#[test]
+fn faults_are_printed_with_their_rule_and_place(rt: HostRuntime) -> Result<(), Fail> {
+    let alloc = rt.alloc();
+    let rule = CFault::Rule {
+        rule: 5,
+        item: 1,
+        statement: 0,
+    };
+    assert_eq!(rt;
+        rule.to_string(alloc)?.as_str(),
+        "rule C5 item 1 statement 0"
+    );
+    let text = CFault::Text { place: 12 };
+    assert_eq!(rt; text.to_string(alloc)?.as_str(), "rule C0 at byte 12");
+    assert_eq!(rt;
+        CFault::OutOfMemory.to_string(alloc)?.as_str(),
+        "out of memory"
+    );
+    Ok(())
+}
+
+/// `uint64_t inner(uint64_t len) { return 1ull; }`
+fn inner(alloc: Global) -> Result<CItem, OutOfMemory>
+    ensures { IfOk result (λ i. i ≡ AFunction (record { name = codes "inner"; params = record { name = codes "len"; kind = ANumberParam } ∷ []; body = AReturn (ANumber 1) ∷ [] })) }
+{
+    let param = Param {
+        name: name(alloc, b"len")?,
+        kind: ParamKind::Number,
+    };
+    let params = one(alloc, param)?;
+    let body = one(alloc, done())?;
+    let name = name(alloc, b"inner")?;
+    Ok(CItem::Function(Function { name, params, body }))
+}
+
+/// `uint64_t n = inner(len);`
+fn call_inner(alloc: Global) -> Result<Stmt, OutOfMemory>
+    ensures { IfOk result (λ s. s ≡ ADeclaration (codes "n") (FromCall (codes "inner") (AVar (codes "len") ∷ []))) }
+{
+    let args = one(alloc, var(alloc, b"len")?)?;
+    let called = name(alloc, b"inner")?;
+    let name = name(alloc, b"n")?;
+    Ok(Stmt::Number {
+        name,
+        from: Source::Call { name: called, args },
+    })
+}
+
+/// `uint64_t outer(uint64_t len) { uint64_t n = inner(len); return 1ull; }`
+fn outer(alloc: Global) -> Result<CItem, OutOfMemory>
+    ensures { IfOk result (λ i. i ≡ AFunction (record { name = codes "outer"; params = record { name = codes "len"; kind = ANumberParam } ∷ []; body = ADeclaration (codes "n") (FromCall (codes "inner") (AVar (codes "len") ∷ [])) ∷ AReturn (ANumber 1) ∷ [] })) }
+{
+    let param = Param {
+        name: name(alloc, b"len")?,
+        kind: ParamKind::Number,
+    };
+    let params = one(alloc, param)?;
+    let mut body = one(alloc, call_inner(alloc)?)?;
+    body.push(done())?;
+    let name = name(alloc, b"outer")?;
+    Ok(CItem::Function(Function { name, params, body }))
+}
+
+/// A program of both, pushed one after the other.
+fn pushed(alloc: Global) -> Result<Valid, OutOfMemory> {
+    let mut builder = Builder::new(alloc);
+    builder.push(inner(alloc)?)?;
+    builder.push(outer(alloc)?)?;
+    Ok(builder.finish())
+}
+
+#[test]
+fn a_builder_takes_a_function_that_calls(rt: HostRuntime) -> Result<(), Fail> {
+    let valid = pushed(rt.alloc())?;
+    assert!(rt; valid.call_depth() == 2);
+    assert!(rt; valid.spaces() == 3);
+    assert!(rt; valid.function("outer") == Some(1));
     Ok(())
 }

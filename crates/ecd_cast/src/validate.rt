@@ -68,7 +68,7 @@ fn judge(alloc: Global, program: &Program) -> Result<u32, CFault>
 /// # Errors
 ///
 /// `Rule` with the first fault: the least item, then the least statement, then the least rule, and C7 last.
-/// `OutOfMemory` where memory is wanting, which statements or expressions inside each other in more than 1,000 levels count as, and more than 2^32 - 1 items, statements of one function or variables of one chain of calls.
+/// `OutOfMemory` where memory is wanting. These count as that: blocks inside each other in more than 1,000 levels, a function's own block being the first; expressions inside each other in more than 1,000; 2^32 or more items, or variables in one chain of calls; 2^32 - 1 or more statements in one function.
 pub fn validate(alloc: Global, program: Program) -> Result<Valid, CFault>
     requires { IsSpelledProgram program }
     ensures same { IfOk result (λ v. v ≡ program) }
