@@ -1,4 +1,4 @@
--- What bodies answer, wherever they stand: a return with a property, within a number of steps, and no write.
+-- What bodies answer, wherever they stand: a return with a property, within a number of steps, and what they write.
 use Rattle.std.specs.Prelude.{ℕ, ◌≡◌, ◌⊎◌, Bool, List, []}
 use Rattle.ecd_cast.specs.declared.tree.Expr.{Expr}
 use Rattle.ecd_cast.specs.declared.tree.Stmt.{Stmt}

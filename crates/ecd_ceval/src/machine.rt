@@ -174,7 +174,7 @@ impl<'a> Machine<'a> {
     /// # Errors
     ///
     /// `Stuck` exactly where the function is stuck there within the limit, `Spent` exactly where it takes more steps
-    /// than the limit; want of memory comes before both.
+    /// than the limit; want of memory may stand in place of any answer.
     pub fn call(&mut self, function: u32, args: &[Arg], limit: Option<u64>) -> Result<u64, Halt>
         requires { Fits self.old.program.items self.old.kinds self.old.memory function (map value_of_arg args.now) }
         ensures answers { Answers (meaning self.old.program.items function (map value_of_arg args.now) self.old.memory) limit result self.old.memory self.new.memory }
