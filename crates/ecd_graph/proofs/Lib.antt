@@ -1,0 +1,6 @@
+pub mod Reaching
+pub mod Linking
+pub mod Entering
+pub mod Following
+pub mod Leaving
+pub mod Completing

@@ -1,0 +1,13 @@
+//! Directed graphs, given by their edges: which nodes reach each other.
+#![tactic(auto)]
+
+mod chains;
+mod edge;
+mod numbers;
+mod search;
+#[cfg(test)]
+mod tests;
+
+pub use ecd_list::OutOfMemory;
+pub use edge::{Edge, are_among};
+pub use numbers::components;
