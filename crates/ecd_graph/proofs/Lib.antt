@@ -4,3 +4,4 @@ pub mod Entering
 pub mod Following
 pub mod Leaving
 pub mod Completing
+pub mod Spreading

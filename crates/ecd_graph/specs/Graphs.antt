@@ -1,5 +1,5 @@
 -- Directed graphs, given by their edges.
-use Rattle.std.specs.Prelude.{◌≡◌, ◌≤◌, ◌<◌, ◌↔◌, ℕ, zero, suc, List, get_or, slice_get, Some}
+use Rattle.std.specs.Prelude.{◌≡◌, ◌≤◌, ◌<◌, ◌↔◌, ℕ, zero, suc, Bool, true, false, List, get_or, slice_get, Some}
 use Rattle.ecd_graph.specs.declared.edge.Edge.{Edge}
 
 -- an edge leads from the one node to the other
@@ -27,3 +27,13 @@ NumbersComponents nodes edges numbers = (a b : ℕ) → a < nodes → b < nodes 
 -- no node reaches one of a greater number
 abbrev pub AreInOrder : ℕ → List Edge → List ℕ → Type 0
 AreInOrder nodes edges numbers = (a b : ℕ) → a < nodes → b < nodes → Reaches edges a b → get_or numbers b 0 ≤ get_or numbers a 0
+
+-- the node is marked
+abbrev pub IsMarked : List Bool → ℕ → Type 0
+IsMarked marked v = get_or marked v false ≡ true
+
+-- a marked node reaches it
+pub record IsReached (edges : List Edge) (marked : List Bool) (v : ℕ) : Type 0 where
+  pub from : ℕ
+  pub is_marked : IsMarked marked from
+  pub reaches : Reaches edges from v

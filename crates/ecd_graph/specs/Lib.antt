@@ -1,3 +1,4 @@
 pub mod Graphs
 pub mod Chains
 pub mod Searches
+pub mod Spreads

@@ -5,9 +5,11 @@ mod chains;
 mod edge;
 mod numbers;
 mod search;
+mod spread;
 #[cfg(test)]
 mod tests;
 
 pub use ecd_list::OutOfMemory;
 pub use edge::{Edge, are_among};
 pub use numbers::components;
+pub use spread::reached;

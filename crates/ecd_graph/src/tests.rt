@@ -1,6 +1,6 @@
 //! Graphs with known components.
 
-use crate::{Edge, are_among, components};
+use crate::{Edge, are_among, components, reached};
 use std::alloc::Global;
 use std::test::Fail;
 
@@ -77,5 +77,43 @@ fn an_edge_to_no_node_is_seen(rt: HostRuntime) -> Result<(), Fail> {
     assert_eq!(rt; are_among(2, &[edge(0, 1)]), true);
     assert_eq!(rt; are_among(2, &[edge(0, 2)]), false);
     assert_eq!(rt; are_among(2, &[edge(2, 0)]), false);
+    Ok(())
+}
+
+/// The nodes that the marked ones reach, or none where an edge has an end that is no node.
+fn reached_by(alloc: Global, edges: &[Edge], marked: &[bool]) -> Result<Vec<bool>, Fail> {
+    match u32::try_from(marked.len()) {
+        Ok(nodes) if are_among(nodes, edges) => {
+            let marks = reached(alloc, edges, marked)?;
+            Ok(marks)
+        }
+        _ => Ok(Vec::new(alloc)),
+    }
+}
+
+#[test]
+fn a_marked_node_reaches_what_it_leads_to(rt: HostRuntime) -> Result<(), Fail> {
+    let edges = [edge(0, 1), edge(1, 2), edge(3, 1), edge(2, 0)];
+    let marks = reached_by(rt.alloc(), &edges, &[false, true, false, false, false])?;
+    assert_eq!(rt;
+        marks.as_slice(),
+        [true, true, true, false, false].as_slice()
+    );
+    Ok(())
+}
+
+#[test]
+fn all_edges_of_a_node_are_followed(rt: HostRuntime) -> Result<(), Fail> {
+    let edges = [edge(0, 1), edge(0, 2), edge(0, 3)];
+    let marks = reached_by(rt.alloc(), &edges, &[true, false, false, false])?;
+    assert_eq!(rt; marks.as_slice(), [true, true, true, true].as_slice());
+    Ok(())
+}
+
+#[test]
+fn no_marks_reach_nothing(rt: HostRuntime) -> Result<(), Fail> {
+    let edges = [edge(0, 1), edge(1, 0)];
+    let marks = reached_by(rt.alloc(), &edges, &[false, false])?;
+    assert_eq!(rt; marks.as_slice(), [false, false].as_slice());
     Ok(())
 }
