@@ -5,6 +5,8 @@
 pub mod laws;
 pub mod plain;
 mod shape;
+#[cfg(test)]
+mod tests;
 mod value;
 
 pub use ecd_list::{Boxed, ByteList, List, OutOfMemory};

@@ -1,0 +1,10 @@
+mod arrays;
+mod atoms;
+mod cose;
+mod items;
+mod maps;
+mod notes;
+mod picks;
+mod rows;
+mod schemas;
+mod values;

@@ -1,0 +1,55 @@
+//! Items without an encoding, and maps that are long.
+
+use crate::plain::holds;
+use crate::tests::rows::shape_of;
+use ecd_item::{Item, Pair};
+use ecd_list::{ByteList, List, OutOfMemory};
+use std::alloc::Global;
+use std::test::Fail;
+
+fn text(alloc: Global, bytes: &[u8]) -> Result<Item, OutOfMemory> {
+    Ok(Item::Text(ByteList::from_slice(alloc, bytes)?))
+}
+
+/// A map from these keys to 0.
+fn map_of(alloc: Global, keys: &[u32]) -> Result<Item, OutOfMemory> {
+    let mut pairs = List::new(alloc);
+    for key in keys {
+        pairs.push(Pair {
+            key: Item::Uint(*key as u64),
+            value: Item::Uint(0),
+        })?;
+    }
+    Ok(Item::Map(pairs))
+}
+
+/// Whether the item has a value under the shape that the text notes.
+fn is_of(alloc: Global, shape: &str, item: &Item) -> Result<bool, Fail> {
+    let shape = shape_of(alloc, shape)?;
+    Ok(holds(alloc, &shape, item)?)
+}
+
+#[test]
+fn what_has_no_encoding_has_no_value(rt: HostRuntime) -> Result<(), Fail> {
+    let alloc = rt.alloc();
+    let bad = text(alloc, &[0xc3, 0x28])?;
+    assert!(rt; !is_of(alloc, "t", &bad)?);
+    assert!(rt; !is_of(alloc, "a0", &bad)?);
+    assert!(rt; !is_of(alloc, "s24", &Item::Simple(24))?);
+    Ok(())
+}
+
+#[test]
+fn keys_are_valid_and_ascend(rt: HostRuntime) -> Result<(), Fail> {
+    let alloc = rt.alloc();
+    for (keys, fits) in [
+        (&[1u32, 2, 24] as &[u32], true),
+        (&[2, 1], false),
+        (&[1, 1], false),
+        (&[0, 1, 3, 2], false),
+    ] {
+        let map = map_of(alloc, keys)?;
+        assert_eq!(rt; is_of(alloc, "{*a0=>u}", &map)?, fits);
+    }
+    Ok(())
+}
