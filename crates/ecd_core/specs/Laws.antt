@@ -12,12 +12,17 @@ use Rattle.ecd_core.specs.declared.shape.Group.{Group}
 use Rattle.ecd_core.specs.declared.shape.Part.TheVariants as p
 use Rattle.ecd_core.specs.declared.shape.Way.{Way}
 use Rattle.ecd_core.specs.declared.shape.MapEntry.{MapEntry}
+use Rattle.ecd_core.specs.declared.shape.MapEntry.TheVariants as m
+use Rattle.ecd_core.specs.declared.shape.Field.{Field}
+use Rattle.ecd_core.specs.declared.shape.Pick.{Pick, out-Pick}
+use Rattle.ecd_core.specs.declared.shape.Table.{Table}
 use Rattle.ecd_core.specs.declared.value.Value.{Value}
 use Rattle.ecd_core.specs.declared.value.Value.TheVariants as v
 use Rattle.ecd_core.specs.Lists.{Each}
-use Rattle.ecd_core.specs.Maps.{MapHas}
-use Rattle.ecd_core.specs.Values.{Gives, HasValue, PartGives, IsWithin, Run, run_items, run_value}
-use Rattle.ecd_core.specs.Listed.{IsAt, PartsHave, entries_mean}
+use Rattle.ecd_core.specs.Maps.{EntryMeaning, AField, APick, ATable, Takes, Blocks, EntryHas, MapHas}
+use Rattle.ecd_core.specs.Owners.{field_of}
+use Rattle.ecd_core.specs.Values.{Gives, HasValue, PartGives, meaning, IsWithin, Run, run_items, run_value}
+use Rattle.ecd_core.specs.Listed.{IsAt, PartsHave, entries_mean, ways_mean}
 
 -- A value belongs to at most one item of a shape.
 abbrev pub HasOneItem : Type 0
@@ -65,3 +70,19 @@ abbrev pub AltGives : Type 0
 AltGives = (order : Order) (at : ℕ) (ways : List Way) (items : List Item) (value : Value) →
     PartGives order (p.Alt at ways) items value
     ↔ ((number : ℕ) × (values : List Value) × (value ≡ v.Way number (v.Group values)) × IsAt (λ (w : Way). PartsHave order w.body.parts items values) ways number)
+
+-- The two are alike in every map: they take and block the same pairs, and have the same lists and values.
+abbrev pub AreAlike : Order → EntryMeaning → EntryMeaning → Type 0
+AreAlike order one other =
+    (pairs : List Pair) → ((pair : Pair) → (Takes pairs pair one ↔ Takes pairs pair other) × (Blocks pairs pair one ↔ Blocks pairs pair other))
+    × ((it : List Pair × Value) → EntryHas order pairs one it ↔ EntryHas order pairs other it)
+
+-- What the entries of a map mean.
+abbrev pub FieldMeans : Type 0
+FieldMeans = (order : Order) (f : Field) → AreAlike order (meaning order (m.Field f)) (AField (field_of order f))
+
+abbrev pub PickMeans : Type 0
+PickMeans = (order : Order) (pick : Pick) → AreAlike order (meaning order (m.Pick pick)) (APick (out-Pick pick).needed (ways_mean order (out-Pick pick).ways))
+
+abbrev pub TableMeans : Type 0
+TableMeans = (order : Order) (t : Table) → AreAlike order (meaning order (m.Table t)) (ATable t.lo t.hi (HasValue order t.key) (HasValue order t.value))

@@ -1,6 +1,6 @@
 //! Laws of values and shapes: facts about the definitions alone.
 
-ghost use Rattle.ecd_core.specs.Laws.{AltGives, AnyTagGives, ArrayGives, CborGives, ChoiceGives, HasOneItem, ManyGives, MapGives, OneGives, OptGives, TagGives};
+ghost use Rattle.ecd_core.specs.Laws.{AltGives, AnyTagGives, ArrayGives, CborGives, ChoiceGives, FieldMeans, HasOneItem, ManyGives, MapGives, OneGives, OptGives, PickMeans, TableMeans, TagGives};
 ghost use Rattle.ecd_core.specs.Walks.{NestNoDeeper, StandTogether};
 
 /// A value belongs to at most one item of a shape.
@@ -14,7 +14,7 @@ pub fn nodes_of_a_shape()
     ensures nesting { NestNoDeeper }
 {}
 
-/// The relation of item and value, kind by kind and part by part, over the lists that a shape holds.
+/// The relation of item and value, kind by kind, part by part and entry by entry, over the lists that a shape holds.
 pub fn values_over_lists()
     ensures tag { TagGives }
     ensures any_tag { AnyTagGives }
@@ -26,4 +26,7 @@ pub fn values_over_lists()
     ensures opt { OptGives }
     ensures many { ManyGives }
     ensures alt { AltGives }
+    ensures field { FieldMeans }
+    ensures pick { PickMeans }
+    ensures table { TableMeans }
 {}
