@@ -1,5 +1,6 @@
 -- Lists and their elements; pairs whose keys ascend.
-use Rattle.std.proofs.Common.{◌≡◌, ℕ, zero, suc, inl, inr, List, [], ◌∷◌, map, get_or, refl, ap, sym, ◌∙◌, subst}
+use Rattle.std.proofs.Common.{◌≡◌, ℕ, zero, suc, ◌+◌, ◌<◌, ◌≤◌, inl, inr, List, [], ◌∷◌, length, map, take, get_or, refl, ap, sym, ◌∙◌, subst, arith}
+use Rattle.std.proofs.lemmas.List.{take_all}
 use Rattle.ecd_keyorder.specs.declared.Order.{Order}
 use Rattle.ecd_keyorder.specs.Order.{IsBefore}
 use Rattle.ecd_keyorder.proofs.Total.{equal_is_same, is_transitive}
@@ -26,6 +27,27 @@ module _ {A : Type 0} where
   each_in P [] x all h = absurd h
   each_in P (y ∷ ys) x all (inl e) = subst P e all.0
   each_in P (y ∷ ys) x all (inr h) = each_in P ys x all.1 h
+
+module _ {A : Type 0} where
+  pub each_place : (P : A → Type 0) (xs : List A) (i : ℕ) (x : A) → i < length xs → x ≡ get_or xs i x → Each P xs → P x
+  each_place P [] i x lt e h = absurd (omega arith)
+  each_place P (y ∷ ys) zero x lt e h = subst P (sym e) h.0
+  each_place P (y ∷ ys) (suc i) x lt e h = each_place P ys i x (omega arith) e h.1
+
+  -- one more of the first elements
+  pub each_more : (P : A → Type 0) (xs : List A) (i : ℕ) (x : A) → i < length xs → x ≡ get_or xs i x → Each P (take i xs) → P x → Each P (take (i + 1) xs)
+  each_more P [] i x lt e h p = absurd (omega arith)
+  each_more P (y ∷ ys) zero x lt e h p = (subst P e p, tt)
+  each_more P (y ∷ ys) (suc i) x lt e h p =
+      let f : suc (i + 1) ≡ suc i + 1 = omega arith in
+      subst (λ (n : ℕ). Each P (take n (y ∷ ys))) f (h.0, each_more P ys i x (omega arith) e h.1 p)
+
+  pub each_all : (P : A → Type 0) (xs : List A) (i : ℕ) → length xs ≤ i → Each P (take i xs) → Each P xs
+  each_all P xs i le h = subst (Each P) (take_all i xs le) h
+
+  pub each_so : (P Q : A → Type 0) → ((x : A) → P x → Q x) → (xs : List A) → Each P xs → Each Q xs
+  each_so P Q f [] h = tt
+  each_so P Q f (x ∷ xs) h = (f x h.0, each_so P Q f xs h.1)
 
 module _ {ℓ} {A : Type ℓ} where
   -- the element of a number, or none where there is no such element

@@ -1,4 +1,5 @@
 pub mod Ascending
+pub mod Counting
 pub mod MapLaw
 pub mod OneItem
 pub mod Layers

@@ -21,13 +21,13 @@ use ecd_list::OutOfMemory;
 use std::alloc::Global;
 
 /// How deep calls may nest: the stack is memory.
-const MOST_CALLS: u32 = 4_000;
+const MOST_CALLS: u32 = 1_000;
 
 /// Whether the item has the value under the shape.
 ///
 /// # Errors
 ///
-/// `OutOfMemory`, also where calls nest more than 4,000 deep; where a key that is an array, map or tag is not valid within 64 levels; where an item under `Any`
+/// `OutOfMemory`, also where calls nest more than 1,000 deep; where a key that is an array, map or tag is not valid within 64 levels; where an item under `Any`
 /// or `AnyOf` with a bound above 64 is not valid within 64 levels; and where more than 64 bytes under `Cbor` are no encoding of an item of at most 64 levels.
 pub fn has_value(
     alloc: Global,

@@ -13,7 +13,6 @@ ghost use Rattle.ecd_core.specs.Lists.{Each};
 ghost use Rattle.ecd_core.specs.Values.{Gives, major_of as major_meant};
 
 use crate::plain::atoms::is_bytes;
-use crate::plain::lists::first_of;
 use crate::value::Value;
 use ecd_item::{Item, ItemFault, Pair, is_valid, length_of, read_item, write_item};
 use ecd_keyorder::{Order, compare};
@@ -148,26 +147,46 @@ fn is_key_before(alloc: Global, key: &Item, next: &Item) -> Result<bool, OutOfMe
     Ok(compare(Order::Bytewise, one.as_slice(), other.as_slice()).is_lt())
 }
 
+/// Whether the keys are valid.
+///
+/// # Errors
+///
+/// `OutOfMemory`, as for `is_key_valid`.
+fn keys_are_valid(pairs: &[Pair]) -> Result<bool, OutOfMemory>
+    ensures tells { Tells result (Each (λ pair. IsValid ByBytes pair.key) pairs.now) }
+    ensures shallow { IfOk result (λ valid. IsTrue valid → Each (λ pair. IsWhole ByBytes 64 pair.key) pairs.now) }
+{
+    for pair in pairs {
+        if !is_key_valid(&pair.key)? {
+            return Ok(false);
+        }
+    }
+    Ok(true)
+}
+
+/// Whether each key stands before the next one.
+fn keys_stand_in_order(alloc: Global, pairs: &[Pair]) -> Result<bool, OutOfMemory>
+    requires { Each (λ pair. IsWhole ByBytes 64 pair.key) pairs.now }
+    ensures { Tells result (Ascend ByBytes (map key_bytes pairs.now)) }
+{
+    for at in 1..pairs.len() {
+        let before = &pairs[at - 1];
+        let pair = &pairs[at];
+        if !is_key_before(alloc, &before.key, &pair.key)? {
+            return Ok(false);
+        }
+    }
+    Ok(true)
+}
+
 /// Whether the keys are valid and ascend.
 pub(crate) fn keys_ascend(alloc: Global, pairs: &[Pair]) -> Result<bool, OutOfMemory>
     ensures { Tells result (Each (λ pair. IsValid ByBytes pair.key) pairs.now × Ascend ByBytes (map key_bytes pairs.now)) }
 {
-    let Some((pair, rest)) = first_of(pairs) else {
-        return Ok(true);
-    };
-    if !is_key_valid(&pair.key)? {
+    if !keys_are_valid(pairs)? {
         return Ok(false);
     }
-    let Some((next, _)) = first_of(rest) else {
-        return Ok(true);
-    };
-    if !is_key_valid(&next.key)? {
-        return Ok(false);
-    }
-    if !is_key_before(alloc, &pair.key, &next.key)? {
-        return Ok(false);
-    }
-    keys_ascend(alloc, rest)
+    keys_stand_in_order(alloc, pairs)
 }
 
 /// The item whose encoding the bytes are.

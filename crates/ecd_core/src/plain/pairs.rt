@@ -468,17 +468,13 @@ fn count_owned(number: usize, pairs: &[Pair], owners: &[usize]) -> usize
     ensures exact { result ≡ length (owned number pairs.now owners.now) }
     ensures few { result ≤ length pairs.now }
 {
-    let Some((_, rest)) = first_of(pairs) else {
-        return 0;
-    };
-    let Some((owner, others)) = first_of(owners) else {
-        return 0;
-    };
-    let behind = count_owned(number, rest, others);
-    if *owner != number {
-        return behind;
+    let mut count = 0;
+    for (at, owner) in owners.iter().enumerate() {
+        if at < pairs.len() && *owner == number {
+            count += 1;
+        }
     }
-    behind + 1
+    count
 }
 
 /// Whether the table has the value with the pairs that the number owns.

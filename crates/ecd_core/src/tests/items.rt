@@ -23,6 +23,22 @@ fn map_of(alloc: Global, keys: &[u32]) -> Result<Item, OutOfMemory> {
     Ok(Item::Map(pairs))
 }
 
+/// A map from 0 up to this number, and then from one key more, to 0.
+fn long_map(alloc: Global, count: u64, last: u64) -> Result<Item, OutOfMemory> {
+    let mut pairs = List::new(alloc);
+    for key in 0..count {
+        pairs.push(Pair {
+            key: Item::Uint(key),
+            value: Item::Uint(0),
+        })?;
+    }
+    pairs.push(Pair {
+        key: Item::Uint(last),
+        value: Item::Uint(0),
+    })?;
+    Ok(Item::Map(pairs))
+}
+
 /// Whether the item has a value under the shape that the text notes.
 fn is_of(alloc: Global, shape: &str, item: &Item) -> Result<bool, Fail> {
     let shape = shape_of(alloc, shape)?;
@@ -51,5 +67,21 @@ fn keys_are_valid_and_ascend(rt: HostRuntime) -> Result<(), Fail> {
         let map = map_of(alloc, keys)?;
         assert_eq!(rt; is_of(alloc, "{*a0=>u}", &map)?, fits);
     }
+    Ok(())
+}
+
+#[test]
+fn the_keys_of_a_long_map_are_judged(rt: HostRuntime) -> Result<(), Fail> {
+    let map = long_map(rt.alloc(), 100_000, 99_999)?;
+    assert!(rt; !is_of(rt.alloc(), "{*u=>u}", &map)?);
+    Ok(())
+}
+
+#[test]
+fn calls_that_nest_too_deep_are_want_of_memory(rt: HostRuntime) -> Result<(), Fail> {
+    let alloc = rt.alloc();
+    let shape = shape_of(alloc, "{*u=>u}")?;
+    assert!(rt; holds(alloc, &shape, &long_map(alloc, 300, 300)?)?);
+    assert!(rt; holds(alloc, &shape, &long_map(alloc, 100_000, 100_000)?).is_err());
     Ok(())
 }

@@ -1,5 +1,0 @@
-use Rattle.std.proofs.Common.{length}
-use Rattle.ecd_core.proofs.plain.encodings.+keys_ascend.Given as goal
-
-abbrev pub decreases-keys_ascend : goal.decreases-keys_ascend
-decreases-keys_ascend l = length l.pairs.now
