@@ -38,7 +38,7 @@ const BODIES: &[Rows] = &[
         ],
     ),
     ("[*0-1(u,t)]", &[Fits("82016161"), Fails("8101")]),
-    // A body of nothing that holds an item: a plug that is not there.
+    // No item is of a choice of nothing, so there is no body.
     (
         "[*(()),(u/n)]",
         &[Has("8107", "(*(),0:7)"), Fails("820707")],

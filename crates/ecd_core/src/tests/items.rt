@@ -1,6 +1,7 @@
 //! Items without an encoding, and maps that are long.
 
 use crate::plain::holds;
+use crate::shape::{Kind, Shape};
 use crate::tests::rows::shape_of;
 use ecd_item::{Item, Pair};
 use ecd_list::{ByteList, List, OutOfMemory};
@@ -11,31 +12,30 @@ fn text(alloc: Global, bytes: &[u8]) -> Result<Item, OutOfMemory> {
     Ok(Item::Text(ByteList::from_slice(alloc, bytes)?))
 }
 
+/// A pair of the key and 0.
+fn zero_at(key: Item) -> Pair {
+    Pair {
+        key,
+        value: Item::Uint(0),
+    }
+}
+
 /// A map from these keys to 0.
-fn map_of(alloc: Global, keys: &[u32]) -> Result<Item, OutOfMemory> {
+fn map_of(alloc: Global, keys: &[u64]) -> Result<Item, OutOfMemory> {
     let mut pairs = List::new(alloc);
     for key in keys {
-        pairs.push(Pair {
-            key: Item::Uint(*key as u64),
-            value: Item::Uint(0),
-        })?;
+        pairs.push(zero_at(Item::Uint(*key)))?;
     }
     Ok(Item::Map(pairs))
 }
 
-/// A map from 0 up to this number, and then from one key more, to 0.
+/// A map from the numbers below `count`, in order, and then from `last`, to 0.
 fn long_map(alloc: Global, count: u64, last: u64) -> Result<Item, OutOfMemory> {
     let mut pairs = List::new(alloc);
     for key in 0..count {
-        pairs.push(Pair {
-            key: Item::Uint(key),
-            value: Item::Uint(0),
-        })?;
+        pairs.push(zero_at(Item::Uint(key)))?;
     }
-    pairs.push(Pair {
-        key: Item::Uint(last),
-        value: Item::Uint(0),
-    })?;
+    pairs.push(zero_at(Item::Uint(last)))?;
     Ok(Item::Map(pairs))
 }
 
@@ -51,15 +51,30 @@ fn what_has_no_encoding_has_no_value(rt: HostRuntime) -> Result<(), Fail> {
     let bad = text(alloc, &[0xc3, 0x28])?;
     assert!(rt; !is_of(alloc, "t", &bad)?);
     assert!(rt; !is_of(alloc, "a0", &bad)?);
+    assert!(rt; !is_of(alloc, "a0", &Item::Simple(24))?);
+    let mut pairs = List::new(alloc);
+    pairs.push(zero_at(bad))?;
+    assert!(rt; !is_of(alloc, "{*(t/u)=>u}", &Item::Map(pairs))?);
+    Ok(())
+}
+
+#[test]
+fn a_literal_that_holds_no_item_has_no_value(rt: HostRuntime) -> Result<(), Fail> {
+    let alloc = rt.alloc();
+    let shape = Shape {
+        at: 0,
+        kind: Kind::TextIs(ByteList::from_slice(alloc, &[0xff])?),
+    };
+    assert!(rt; !holds(alloc, &shape, &text(alloc, &[0xff])?)?);
     assert!(rt; !is_of(alloc, "s24", &Item::Simple(24))?);
     Ok(())
 }
 
 #[test]
-fn keys_are_valid_and_ascend(rt: HostRuntime) -> Result<(), Fail> {
+fn keys_ascend(rt: HostRuntime) -> Result<(), Fail> {
     let alloc = rt.alloc();
     for (keys, fits) in [
-        (&[1u32, 2, 24] as &[u32], true),
+        (&[1u64, 2, 24] as &[u64], true),
         (&[2, 1], false),
         (&[1, 1], false),
         (&[0, 1, 3, 2], false),

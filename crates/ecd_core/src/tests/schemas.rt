@@ -1,8 +1,8 @@
 //! Shapes in a small notation.
 //!
-//! `u`, `n`, `b` and `t` with bounds (`u5`, `t0-9`, `u10-`, or none) are numbers and strings, `"a"` and `'61'` literals, `s22` a simple value, `#1u` and `#u` tags,
-//! `a2` any item of depth 2, `m4a1` one of major type 4, `cu` the encoding of an item, `(u/n)` a choice. `[u,?(t),*1-2(u,t),<()()>]` is an array,
-//! `{"a":u,?u1=>t,+2"b":u,*1-t=>u,?<{"a":u}{"b":u}>}` a map: `?` and `+2` give a lower bound, `:` a cut, `*` a table, `<>` a pick.
+//! `u`, `n`, `b` and `t` with bounds (`u5`, `t0-9`, `u10-`, or none) are numbers and strings, `"a"` and `'61'` literals, `s22` a simple value, `#1u` and `#u`
+//! tags, `a2` any item of depth 2, `m4a1` one of major type 4, `cu` the encoding of an item, `(u/n)` a choice. `[u,?(t),*1-2(u,t),<()(u)>]` is an array, `<>` a
+//! choice of groups. `{"a":u,?u1=>t,+2"b":u,*1-t=>u,?<{"a":u}{"b":u}>}` is a map: `?` and `+2` give a lower bound, `:` a cut, `*` a table, `<>` a pick.
 
 use crate::shape::{
     EntryList, Field, Group, Kind, MapEntry, MapWay, MapWayList, Part, PartList, Pick, Shape,
