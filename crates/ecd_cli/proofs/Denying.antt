@@ -4,6 +4,7 @@ use Rattle.std.specs.Prelude.{codes}
 use Rattle.ecd_compile.specs.declared.refusal.Refusal.{Refusal}
 use Rattle.ecd_compile.specs.Schema.{IsTold, HasCause}
 use Rattle.ecd_compile.proofs.Causes.{one_cause, never_refused, thin_once}
+use Rattle.ecd_cli.proofs.Calling.{not_run_once, not_run_or_run}
 use Rattle.ecd_cli.specs.Asked.{Asked, SchemaAsked, check, compile, read, write, copy, run, sample}
 use Rattle.ecd_cli.specs.Outcomes.{Outcome, NoEncoding, NotBuilt}
 use Rattle.ecd_cli.specs.Causes.{IsRefused, IsCompiledTo, IsAnyNumber, IsNumber, BeginsWith, BeginWithItem, BeginWithNone, IsDenied, IsAccepted, IsTextOver, outcome_of_refusal}
@@ -59,7 +60,10 @@ denied_once (read s d) (x ∷ y ∷ []) o p a b = read_once x s.root y o p a b
 denied_once (read s d) (x ∷ y ∷ z ∷ more) o p a b = absurd a
 denied_once (write s v m) contents o p a b = a ∙ sym b
 denied_once (copy s d m) contents o p a b = a ∙ sym b
-denied_once (run c f d n) contents o p a b = a ∙ sym b
+denied_once (run c f d n) [] o p a b = absurd a
+denied_once (run c f d n) (x ∷ []) o p a b = absurd a
+denied_once (run c f d n) (x ∷ y ∷ []) o p a b = not_run_once x f y n o p a b
+denied_once (run c f d n) (x ∷ y ∷ z ∷ more) o p a b = absurd a
 denied_once (sample n) contents o p a b = a ∙ sym b
 
 pub denied_or_accepted : (asked : Asked) (contents : List (List ℕ)) (o : Outcome) → IsDenied asked contents o → IsAccepted asked contents → ⊥
@@ -75,7 +79,10 @@ denied_or_accepted (read s d) (x ∷ y ∷ []) o a b = read_or_item x s.root y o
 denied_or_accepted (read s d) (x ∷ y ∷ z ∷ more) o a b = a
 denied_or_accepted (write s v m) contents o a b = b
 denied_or_accepted (copy s d m) contents o a b = b
-denied_or_accepted (run c f d n) contents o a b = b
+denied_or_accepted (run c f d n) [] o a b = a
+denied_or_accepted (run c f d n) (x ∷ []) o a b = a
+denied_or_accepted (run c f d n) (x ∷ y ∷ []) o a b = not_run_or_run x f y n o a b
+denied_or_accepted (run c f d n) (x ∷ y ∷ z ∷ more) o a b = a
 denied_or_accepted (sample n) contents o a b = b
 
 -- what has a text is accepted
@@ -92,5 +99,8 @@ text_accepted (read s d) (x ∷ y ∷ []) text b = b.0
 text_accepted (read s d) (x ∷ y ∷ z ∷ more) text b = b
 text_accepted (write s v m) contents text b = b
 text_accepted (copy s d m) contents text b = b
-text_accepted (run c f d n) contents text b = b
+text_accepted (run c f d n) [] text b = b
+text_accepted (run c f d n) (x ∷ []) text b = b
+text_accepted (run c f d n) (x ∷ y ∷ []) text b = (b.0, b.1, b.2.0)
+text_accepted (run c f d n) (x ∷ y ∷ z ∷ more) text b = b
 text_accepted (sample n) contents text b = b

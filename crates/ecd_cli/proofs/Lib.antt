@@ -1,6 +1,10 @@
 pub mod Decimals
 pub mod Tables
 pub mod Reading
+pub mod Calling
+pub mod Structs
+pub mod Params
+pub mod Machines
 pub mod Denying
 pub mod Due
 pub mod Texts

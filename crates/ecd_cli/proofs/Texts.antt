@@ -6,7 +6,11 @@ use Rattle.ecd_outside.specs.Causes.{Rose}
 use Rattle.ecd_compile.specs.declared.refusal.Refusal.{Refusal}
 use Rattle.ecd_compile.specs.declared.refusal.Refusal.TheVariants as refusals
 use Rattle.ecd_compile.specs.Schema.{IsTold}
-use Rattle.ecd_cli.specs.Asked.{Asked, SchemaAsked, check, compile, read}
+use Rattle.ecd_cast.specs.declared.tree.Program.{Program}
+use Rattle.ecd_cli.specs.Asked.{Asked, SchemaAsked, check, compile, read, run}
+use Rattle.ecd_cast.specs.Validity.{IsValid}
+use Rattle.ecd_cgrammar.specs.Faults.{IsSpelling}
+use Rattle.ecd_cli.specs.Calls.{IsHalted, IsNotRun, HasNoProgram, BreaksRule}
 use Rattle.ecd_cli.specs.Outcomes.{Outcome, Done, NoEncoding, Broken, Usage, ReadFault, WriteFault, TooLarge, OutOfMemory, NotBuilt}
 use Rattle.ecd_cli.specs.Files.{Wanted, files_of, schema_wanted, IsRead, AreRead, IsTooLarge, IsOneMissing}
 use Rattle.ecd_cli.specs.Causes.{IsRefused, IsRefusedOrWants, IsUnread, BeginWithNone, IsDenied, IsDue, IsDecided, MayFailToRead, HasNoText, outcome_of_refusal}
@@ -110,3 +114,31 @@ none_has_none told s d schema input before now are none = decided_only told (rea
 
 pub wants_has_none : (told : Told) (asked : Asked) (before now : ℕ) → HasNoText told asked before now OutOfMemory
 wants_has_none told asked before now = wants_only told asked before now OutOfMemory refl
+
+-- ---- C files
+
+halted_decided : (p : Program) (name input : List ℕ) (steps : ℕ) (o : Outcome) → IsHalted p name input steps o → IsDecided o
+halted_decided p name input steps o (inl a) = subst IsDecided (sym a.1) tt
+halted_decided p name input steps o (inr (inl a)) = subst IsDecided (sym a.is) tt
+halted_decided p name input steps o (inr (inr a)) = subst IsDecided (sym a.is) tt
+
+not_run_decided : (c_text name input : List ℕ) (steps : ℕ) (o : Outcome) → IsNotRun c_text name input steps o → IsDecided o
+not_run_decided c_text name input steps o (inl a) = subst IsDecided (sym a.2) tt
+not_run_decided c_text name input steps o (inr (inl a)) = subst IsDecided (sym a.4) tt
+not_run_decided c_text name input steps o (inr (inr a)) = halted_decided a.0 name input steps o a.2
+
+-- the C text is refused, or the call does not return
+pub not_run_has_none : (told : Told) (c f d : List ℕ) (steps : ℕ) (c_text input : List ℕ) (before now : ℕ) (o : Outcome) → AreRead told (files_of (run c f d steps)) (c_text ∷ input ∷ [])
+    → (o ≡ OutOfMemory) ⊎ IsNotRun c_text f input steps o → HasNoText told (run c f d steps) before now o
+not_run_has_none told c f d steps c_text input before now o are (inl x) = wants_only told (run c f d steps) before now o x
+not_run_has_none told c f d steps c_text input before now o are (inr x) =
+    decided_only told (run c f d steps) before now o (not_run_decided c_text f input steps o x) (inr record { contents = c_text ∷ input ∷ []; are_read = are; denied = x })
+
+pub c_refused : (c_text name input : List ℕ) (steps : ℕ) (o : Outcome) → (o ≡ OutOfMemory) ⊎ (HasNoProgram c_text o ⊎ BreaksRule c_text o) → (o ≡ OutOfMemory) ⊎ IsNotRun c_text name input steps o
+c_refused c_text name input steps o (inl x) = inl x
+c_refused c_text name input steps o (inr (inl x)) = inr (inl x)
+c_refused c_text name input steps o (inr (inr x)) = inr (inr (inl x))
+
+pub c_halted : (c_text : List ℕ) (p : Program) (name input : List ℕ) (steps : ℕ) (o : Outcome) → IsSpelling p c_text → IsValid p → (o ≡ OutOfMemory) ⊎ IsHalted p name input steps o → (o ≡ OutOfMemory) ⊎ IsNotRun c_text name input steps o
+c_halted c_text p name input steps o spells valid (inl x) = inl x
+c_halted c_text p name input steps o spells valid (inr x) = inr (inr (inr (p, record { spells = spells; valid = valid }, x)))

@@ -12,6 +12,7 @@ use Rattle.ecd_compile.specs.Thin.{IsThin}
 use Rattle.ecd_compile.specs.Reads.{IsCompiled}
 use Rattle.ecd_cast.specs.declared.tree.Program.{Program}
 use Rattle.ecd_cli.specs.Asked.{Asked, check, compile, read, write, copy, run, sample}
+use Rattle.ecd_cli.specs.Calls.{IsNotRun, IsRun, IsRunText}
 use Rattle.ecd_cli.specs.Files.{Wanted, files_of, AreRead, IsTooLarge, IsOneMissing}
 use Rattle.ecd_cli.specs.Outcomes.{Outcome, RuleName, Done, NoEncoding, Broken, Usage, ReadFault, WriteFault, TooLarge, OutOfMemory, NoSpelling, BreaksC, Stuck, Spent, NoFunction, NotBuilt}
 use Rattle.ecd_cli.specs.declared.status.Status.{Status}
@@ -85,7 +86,7 @@ IsDenied (compile s) contents outcome = OfOne contents (λ schema. IsRefused sch
 IsDenied (read s d) contents outcome = OfTwo contents (λ schema input. IsRefused schema s.root outcome ⊎ (BeginWithNone schema s.root input × (outcome ≡ NoEncoding)))
 IsDenied (write s v cap) contents outcome = outcome ≡ NotBuilt
 IsDenied (copy s d cap) contents outcome = outcome ≡ NotBuilt
-IsDenied (run c f d steps) contents outcome = outcome ≡ NotBuilt
+IsDenied (run c f d steps) contents outcome = OfTwo contents (λ c_text input. IsNotRun c_text f input steps outcome)
 IsDenied (sample n) contents outcome = outcome ≡ NotBuilt
 
 -- what is asked for over these contents has a text
@@ -95,7 +96,7 @@ IsAccepted (compile s) contents = OfOne contents (λ schema. IsAnyNumber schema 
 IsAccepted (read s d) contents = OfTwo contents (λ schema input. BeginWithItem schema s.root input)
 IsAccepted (write s v cap) contents = ⊥
 IsAccepted (copy s d cap) contents = ⊥
-IsAccepted (run c f d steps) contents = ⊥
+IsAccepted (run c f d steps) contents = OfTwo contents (λ c_text input. IsRun c_text f input steps)
 IsAccepted (sample n) contents = ⊥
 
 -- what is asked for over these contents is this text
@@ -105,7 +106,7 @@ IsTextOver (compile s) contents text = OfOne contents (λ schema. IsCompiledTo s
 IsTextOver (read s d) contents text = OfTwo contents (λ schema input. BeginWithItem schema s.root input × (text ≡ codes "1 _\n"))
 IsTextOver (write s v cap) contents text = ⊥
 IsTextOver (copy s d cap) contents text = ⊥
-IsTextOver (run c f d steps) contents text = ⊥
+IsTextOver (run c f d steps) contents text = OfTwo contents (λ c_text input. IsRunText c_text f input steps text)
 IsTextOver (sample n) contents text = ⊥
 
 -- a file is too large

@@ -17,6 +17,9 @@ schema_wanted s = wanted s.file 262144
 abbrev pub data_wanted : List ℕ → Wanted
 data_wanted name = wanted name 16777216
 
+abbrev pub c_wanted : List ℕ → Wanted
+c_wanted name = wanted name 67108864
+
 -- the files of a command, in the order in which they are read; none where the command is not built
 abbrev pub files_of : Asked → List Wanted
 files_of (check s) = schema_wanted s ∷ []
@@ -24,7 +27,7 @@ files_of (compile s) = schema_wanted s ∷ []
 files_of (read s d) = schema_wanted s ∷ data_wanted d ∷ []
 files_of (write s v cap) = []
 files_of (copy s d cap) = []
-files_of (run c f d steps) = []
+files_of (run c f d steps) = c_wanted c ∷ data_wanted d ∷ []
 files_of (sample n) = []
 
 -- where contents are told, the bytes are those of the file, and no more than it may have

@@ -65,6 +65,16 @@ pub enum Answer<'a> {
     NotBuilt,
 }
 
+impl<'a> From<OutOfMemory> for Answer<'a> {
+    ghost use Rattle.ecd_cli.specs.declared.answer.Answer.TheVariants.{OutOfMemory as Wants};
+
+    ghost from_gives = { λ _ answer. answer ≡ Wants };
+
+    fn from(_refused: OutOfMemory) -> Answer<'a> {
+        Answer::OutOfMemory
+    }
+}
+
 impl Answer<'_> {
     /// The status that goes with it.
     pub fn status(&self) -> Status

@@ -1,7 +1,7 @@
 //! The texts that the commands ask for.
 
 ghost use Rattle.std.specs.Prelude.{◌≡◌, ◌≢◌, ◌≤◌, [], true, IfOk, IfErr};
-ghost use Rattle.ecd_cli.specs.Asked.{IsInRange, check, compile, read};
+ghost use Rattle.ecd_cli.specs.Asked.{IsInRange, check, compile, read, run};
 ghost use Rattle.ecd_cli.specs.Commands.{asked_by, schema_asked};
 ghost use Rattle.ecd_cli.specs.Files.{files_of, TakesFew};
 ghost use Rattle.ecd_cli.specs.Causes.{IsText, HasNoText};
@@ -9,6 +9,7 @@ ghost use Rattle.ecd_cli.specs.Outcomes.{OutOfMemory as WantsMemory};
 ghost use Rattle.ecd_cli.specs.Answers.{outcome_of};
 
 use crate::answer::Answer;
+use crate::cfiles::{MOST_C_TEXT, program_of, returned};
 use crate::contents::{MOST_DATA, contents_of};
 use crate::reader::consumed;
 use crate::schemas::compile_schema;
@@ -104,6 +105,36 @@ fn read_text<'a, F: Files>(
     text(alloc, b"1 _\n")
 }
 
+/// What a reader of the C file does with the data in at most so many steps.
+fn run_text<'a, F: Files>(
+    alloc: Global,
+    c_file: &'a str,
+    function: &'a str,
+    name: &'a str,
+    steps: u64,
+    files: &mut F,
+) -> Result<ByteList, Answer<'a>>
+    ensures text { IfOk result (λ text. IsText (F.told files.old) (run c_file.now function.now name.now steps) text) }
+    ensures none { IfErr result (λ answer. HasNoText (F.told files.old) (run c_file.now function.now name.now steps) (F.faults files.old) (F.faults files.new) (outcome_of answer)) }
+    ensures few { F.begun files.new ≡ true → TakesFew (F.told files.old) (files_of (run c_file.now function.now name.now steps)) (F.left files.new) }
+    ensures told { F.told files.new ≡ F.told files.old }
+    ensures later { F.faults files.old ≤ F.faults files.new }
+{
+    let c_text = contents_of(alloc, files, c_file, MOST_C_TEXT)?;
+    let input = match contents_of(alloc, files, name, MOST_DATA) {
+        Ok(input) => input,
+        Err(answer) => return Err(answer),
+    };
+    let program = match program_of(alloc, c_text.as_slice()) {
+        Ok(program) => program,
+        Err(answer) => return Err(answer),
+    };
+    match returned(alloc, &program, function, input.as_slice(), steps) {
+        Ok(text) => Ok(text),
+        Err(answer) => Err(answer),
+    }
+}
+
 /// The text that the words ask for.
 pub fn text_of<'a, F: Files>(
     alloc: Global,
@@ -122,9 +153,14 @@ pub fn text_of<'a, F: Files>(
         Command::Check(words) => check_text(alloc, &words, files),
         Command::Compile(words) => compile_text(alloc, &words, files),
         Command::Read { schema, data } => read_text(alloc, &schema, data, files),
-        Command::Write { .. }
-        | Command::Copy { .. }
-        | Command::Run { .. }
-        | Command::Sample { .. } => Err(Answer::NotBuilt),
+        Command::Run {
+            file,
+            function,
+            data,
+            steps,
+        } => run_text(alloc, file, function, data, steps, files),
+        Command::Write { .. } | Command::Copy { .. } | Command::Sample { .. } => {
+            Err(Answer::NotBuilt)
+        }
     }
 }

@@ -2,6 +2,8 @@
 #![tactic(auto)]
 
 pub mod answer;
+pub mod cells;
+pub mod cfiles;
 pub mod commands;
 pub mod contents;
 pub mod laws;

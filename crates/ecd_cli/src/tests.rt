@@ -153,7 +153,6 @@ fn words_are_in_the_table_or_the_usage_is_told(rt: HostRuntime) -> Result<(), Fa
     for words in [
         "write s x 32 s 16777216",
         "copy s x 0 s 0",
-        "run s read_0 s 9223372036854775807",
         "sample 20000",
     ] {
         let told = is_answered(rt.alloc(), words, "x = 5", not_built, "not built\n")?;
