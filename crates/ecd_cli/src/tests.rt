@@ -2,7 +2,7 @@ use crate::run::run;
 use crate::status::Status;
 use ecd_compile::compile;
 use ecd_list::{ByteList, OutOfMemory};
-use ecd_outside::{CallList, FileList, MemoryFiles, MemorySink, StoredFile};
+use ecd_outside::{CallList, Failed, FileList, Files, MemoryFiles, MemorySink, StoredFile};
 use std::alloc::Global;
 use std::test::Fail;
 
@@ -150,11 +150,7 @@ fn words_are_in_the_table_or_the_usage_is_told(rt: HostRuntime) -> Result<(), Fa
         let told = is_answered(rt.alloc(), words, "x = 5", Status::Usage, usage)?;
         assert!(rt; told, "{words}");
     }
-    for words in [
-        "write s x 32 s 16777216",
-        "copy s x 0 s 0",
-        "sample 20000",
-    ] {
+    for words in ["write s x 32 s 16777216", "copy s x 0 s 0", "sample 20000"] {
         let told = is_answered(rt.alloc(), words, "x = 5", not_built, "not built\n")?;
         assert!(rt; told, "{words}");
     }
@@ -172,6 +168,7 @@ fn schemas_are_taken_or_refused_with_rule_and_place(rt: HostRuntime) -> Result<(
         ("compile s x 0", "x = 24", not_built, "not built\n"),
         ("check s y 0", "x = 5", not_built, "not built\n"),
         ("compile t x 0", "x = 5", Status::ReadFault, "read fault\n"),
+        ("check t x 0", "x = 5", Status::ReadFault, "read fault\n"),
         (
             "check s a 0",
             "a = %",
@@ -332,6 +329,218 @@ fn each_fault_is_told_and_a_front_is_written(rt: HostRuntime) -> Result<(), Fail
         assert_eq!(rt; answer.out.len(), written);
         assert!(rt; whole.starts_with(answer.out.as_slice()));
         assert_eq!(rt; (answer.read_faults, answer.write_faults), faults);
+    }
+    Ok(())
+}
+
+/// A C file with this depth of calls, whose reader `take` begins with these statements.
+fn c_text(alloc: Global, depth: &str, first: &str) -> Result<String, OutOfMemory> {
+    let mut text = String::from_str(alloc, "#include <stdint.h>\nenum { call_depth = ")?;
+    text.push_str(depth)?;
+    text.push_str(" };\nstruct found { uint64_t byte; const uint8_t *place; uint64_t spare; };\n")?;
+    text.push_str("uint64_t take(const uint8_t *buf, uint64_t len, struct found *out) {\n")?;
+    text.push_str(first)?;
+    text.push_str("\nuint64_t x = (uint64_t)buf[n];\nout->byte = x;\nout->place = (buf + n);\n")?;
+    text.push_str("return (n + 1ull);\n}\nuint64_t same(uint64_t number) { return number; }\n")?;
+    Ok(text)
+}
+
+/// What the words answer over that C file and the data 05 07.
+fn call_on(alloc: Global, words: &str, text: &str) -> Result<Answer, OutOfMemory> {
+    let mut outside = with_file(text);
+    outside.input = Some(b"\x05\x07");
+    call(alloc, words, outside)
+}
+
+#[test]
+fn readers_of_c_files_return_or_halt(rt: HostRuntime) -> Result<(), Fail> {
+    let (stuck, spent) = (Status::Stuck, Status::Spent);
+    let first = "result 1\nbyte = 5\nplace = data+0\nspare unset\n";
+    let second = "result 2\nbyte = 7\nplace = data+1\nspare unset\n";
+    for (words, begins, status, out, line) in [
+        (
+            "run s take d 9223372036854775807",
+            "uint64_t n = 0ull;",
+            Status::Done,
+            first,
+            "",
+        ),
+        (
+            "run s take d 5",
+            "uint64_t n = 1ull;",
+            Status::Done,
+            second,
+            "",
+        ),
+        (
+            "run s take d 4",
+            "uint64_t n = 1ull;",
+            spent,
+            "",
+            "spent 4\n",
+        ),
+        (
+            "run s take d 2",
+            "uint64_t n = (len + 0ull);",
+            stuck,
+            "",
+            "stuck 1 item 1 statement 2\n",
+        ),
+        (
+            "run s take d 1",
+            "uint64_t n = (len + 0ull);",
+            spent,
+            "",
+            "spent 1\n",
+        ),
+        (
+            "run s take d 1000",
+            "uint64_t n = (1ull << 64ull);",
+            stuck,
+            "",
+            "stuck 4 item 1 statement 1\n",
+        ),
+        (
+            "run s take d 1000",
+            "uint64_t n = out->spare;",
+            stuck,
+            "",
+            "stuck 5 item 1 statement 1\n",
+        ),
+        (
+            "run s take d 1000",
+            "const uint8_t *p = (buf + 3ull); uint64_t n = 0ull;",
+            stuck,
+            "",
+            "stuck 3 item 1 statement 1\n",
+        ),
+        (
+            "run s take d 1000",
+            "uint64_t n = 18446744073709551615ull; for (uint64_t i = 0ull; i < n; i += 1ull) { }",
+            spent,
+            "",
+            "spent 1000\n",
+        ),
+    ] {
+        let text = c_text(rt.alloc(), "1", begins)?;
+        let answer = call_on(rt.alloc(), words, text.as_str())?;
+        assert_eq!(rt; answer.status, status, "{words} {begins}");
+        assert_eq!(rt; answer.out.as_slice(), out.as_bytes());
+        assert_eq!(rt; answer.err.as_slice(), line.as_bytes());
+    }
+    Ok(())
+}
+
+#[test]
+fn c_files_and_functions_are_refused(rt: HostRuntime) -> Result<(), Fail> {
+    let (c_file, none) = (Status::CFile, Status::NoFunction);
+    let good = c_text(rt.alloc(), "1", "uint64_t n = 0ull;")?;
+    let deep = c_text(rt.alloc(), "2", "uint64_t n = 0ull;")?;
+    let unknown = c_text(rt.alloc(), "1", "uint64_t n = q;")?;
+    let open = "#include <stdint.h>\nenum { call_depth = 1 };\nuint64_t f(uint64_t n) { }\n";
+    for (words, text, status, line) in [
+        (
+            "run s take d 1000",
+            deep.as_str(),
+            c_file,
+            "c file rule C7 item 0 statement 0\n",
+        ),
+        (
+            "run s take d 1000",
+            unknown.as_str(),
+            c_file,
+            "c file rule C1 item 1 statement 1\n",
+        ),
+        (
+            "run s other d 1000",
+            unknown.as_str(),
+            c_file,
+            "c file rule C1 item 1 statement 1\n",
+        ),
+        (
+            "run s f d 1000",
+            open,
+            c_file,
+            "c file rule C5 item 0 statement 0\n",
+        ),
+        ("run s take d 1000", "", c_file, "c file rule C0 byte 0\n"),
+        (
+            "run s other d 1",
+            good.as_str(),
+            none,
+            "no function other\n",
+        ),
+        ("run s same d 1", good.as_str(), none, "no function same\n"),
+        (
+            "run s found d 1",
+            good.as_str(),
+            none,
+            "no function found\n",
+        ),
+        ("run s take t 1", "", Status::ReadFault, "read fault\n"),
+        ("run t take d 1", "", Status::ReadFault, "read fault\n"),
+    ] {
+        let answer = call_on(rt.alloc(), words, text)?;
+        assert_eq!(rt; answer.status, status, "{words}");
+        assert!(rt; answer.out.is_empty());
+        assert_eq!(rt; answer.err.as_slice(), line.as_bytes());
+    }
+    Ok(())
+}
+
+/// Files that tell nothing, each with so many bytes 0.
+#[derive(Drop)]
+struct LongFiles {
+    length: usize,
+    left: Option<usize>,
+}
+
+impl Files for LongFiles {
+    ghost use Rattle.std.specs.Prelude.{None, is_some};
+
+    ghost told = { λ _. None };
+
+    ghost left = { λ _. None };
+
+    ghost begun = { λ f. is_some f.left };
+
+    ghost faults = { λ _. 0 };
+
+    fn begin(&mut self, _name: &str) -> Result<(), Failed> {
+        self.left = Some(self.length);
+        Ok(())
+    }
+
+    fn read(&mut self, into: &mut [u8]) -> Result<usize, Failed> {
+        let Some(left) = self.left else {
+            unreachable!();
+        };
+        let count = left.min(into.len());
+        self.left = Some(left - count);
+        Ok(count)
+    }
+}
+
+#[test]
+fn a_c_file_of_the_limit_is_read_and_a_longer_one_is_too_large(
+    rt: HostRuntime,
+) -> Result<(), Fail> {
+    let mut words = Vec::new(rt.alloc());
+    for word in ["run", "s", "take", "d", "1"] {
+        words.push(String::from_str(rt.alloc(), word)?)?;
+    }
+    // The data may have fewer bytes than the C file, which is read before them.
+    for (length, line) in [
+        (67_108_864, "too large: d\n"),
+        (67_108_865, "too large: s\n"),
+    ] {
+        let mut files = LongFiles { length, left: None };
+        let mut out = MemorySink::new(rt.alloc(), AMPLE, CallList::new(rt.alloc()))?;
+        let mut err = MemorySink::new(rt.alloc(), AMPLE, CallList::new(rt.alloc()))?;
+        let status = run(rt.alloc(), &words, &mut files, &mut out, &mut err);
+        assert_eq!(rt; status, Status::TooLarge);
+        assert_eq!(rt; err.written(), line.as_bytes());
+        assert!(rt; out.written().is_empty());
     }
     Ok(())
 }
