@@ -3,6 +3,8 @@
 
 pub mod build;
 pub mod builder;
+#[cfg(test)]
+mod cell_tests;
 mod chains;
 mod directory;
 pub mod fault;

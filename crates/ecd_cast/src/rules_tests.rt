@@ -8,12 +8,12 @@ ghost use Rattle.ecd_cast.specs.declared.tree.CItem.TheVariants.{Function as AFu
 ghost use Rattle.ecd_cast.specs.declared.tree.ParamKind.TheVariants.{Number as ANumberParam};
 ghost use Rattle.ecd_cast.specs.Spelling.{IsName, IsSpelledExpr, IsSpelledSource, IsSpelledStmt, IsSpelledBlock, IsSpelledItem, IsSpelledProgram};
 
-use crate::build::{name, one, var};
+use crate::build::{binary, name, one, var};
 use crate::builder::{Builder, Valid};
 use crate::fault::CFault;
 use crate::tree::{
-    CItem, CItemList, CellInfo, CellKind, Expr, ExprList, Function, Param, ParamKind, ParamList,
-    Program, Source, Stmt, StmtList, StructDecl,
+    CItem, CItemList, CellInfo, CellKind, Expr, ExprList, Function, Op, Param, ParamKind,
+    ParamList, Program, Source, Stmt, StmtList, StructDecl,
 };
 use crate::validate::validate;
 use ecd_list::{Boxed, OutOfMemory};
@@ -82,7 +82,7 @@ fn repeat(alloc: Global, text: &[u8], inside: Stmt) -> Result<Stmt, OutOfMemory>
 }
 
 /// `return 1ull;`
-fn done() -> Stmt
+pub(crate) fn done() -> Stmt
     ensures { result ≡ AReturn (ANumber 1) }
 {
     Stmt::Return(Expr::Number(1))
@@ -273,7 +273,7 @@ fn reader(alloc: Global, text: &[u8]) -> Result<CItem, OutOfMemory>
 }
 
 /// `struct cells { uint64_t v; };`
-fn cells(alloc: Global) -> Result<CItem, OutOfMemory>
+pub(crate) fn cells(alloc: Global) -> Result<CItem, OutOfMemory>
     ensures { IfOk result (λ i. IsSpelledItem i) }
 {
     let cell = CellInfo {
@@ -447,7 +447,7 @@ fn statements_beyond_a_thousand_levels_are_too_deep(rt: HostRuntime) -> Result<(
 }
 
 /// The fault of a program of two structs, the second without a function behind it.
-fn fault_of_structs(
+pub(crate) fn fault_of_structs(
     alloc: Global,
     first: CItem,
     second: CItem,
@@ -462,7 +462,12 @@ fn fault_of_structs(
 }
 
 /// A program of two items.
-fn pair(alloc: Global, depth: u32, first: CItem, second: CItem) -> Result<Program, OutOfMemory>
+pub(crate) fn pair(
+    alloc: Global,
+    depth: u32,
+    first: CItem,
+    second: CItem,
+) -> Result<Program, OutOfMemory>
     requires first { IsSpelledItem first }
     requires second { IsSpelledItem second }
     ensures { IfOk result (λ p. IsSpelledProgram p) }
@@ -658,5 +663,70 @@ fn a_builder_takes_a_function_that_calls(rt: HostRuntime) -> Result<(), Fail> {
     assert!(rt; valid.call_depth() == 2);
     assert!(rt; valid.spaces() == 3);
     assert!(rt; valid.function("outer") == Some(1));
+    Ok(())
+}
+
+/// `(0ull < 1ull)`
+fn truth(alloc: Global) -> Result<Expr, OutOfMemory>
+    ensures { IfOk result (λ e. IsSpelledExpr e) }
+{
+    Ok(binary(alloc, Op::Lt, Expr::Number(0), Expr::Number(1))?)
+}
+
+/// A block of one statement.
+fn block(alloc: Global, only: Stmt) -> Result<StmtList, OutOfMemory>
+    requires { IsSpelledStmt only }
+    ensures { IfOk result (λ b. IsSpelledBlock b) }
+{
+    Ok(one(alloc, only)?)
+}
+
+/// `if test { first } else { second }`
+fn either(test: Expr, first: StmtList, second: StmtList) -> Stmt
+    requires test { IsSpelledExpr test }
+    requires first { IsSpelledBlock first }
+    requires second { IsSpelledBlock second }
+    ensures { IsSpelledStmt result }
+{
+    Stmt::If {
+        test,
+        yes: first,
+        no: second,
+    }
+}
+
+/// `if (0ull < 1ull) { first } else { second }`
+fn choice(alloc: Global, first: Stmt, second: Stmt) -> Result<Stmt, OutOfMemory>
+    requires first { IsSpelledStmt first }
+    requires second { IsSpelledStmt second }
+    ensures { IfOk result (λ s. IsSpelledStmt s) }
+{
+    let first = block(alloc, first)?;
+    let second = block(alloc, second)?;
+    Ok(either(truth(alloc)?, first, second))
+}
+
+/// The fault of a function that ends by a choice between a choice and a return; the inner one returns in its first block.
+fn fault_of_choice(alloc: Global, second: Stmt) -> Result<Option<CFault>, OutOfMemory>
+    requires { IsSpelledStmt second }
+{
+    let inner = choice(alloc, done(), second)?;
+    let outer = choice(alloc, inner, done())?;
+    fault_of(alloc, clear(alloc, b"len")?, outer)
+}
+
+#[test]
+fn both_blocks_of_a_last_choice_have_to_return(rt: HostRuntime) -> Result<(), Fail> {
+    let alloc = rt.alloc();
+    let fault = fault_of_choice(alloc, clear(alloc, b"len")?)?;
+    assert!(rt;
+        fault
+            == Some(CFault::Rule {
+                rule: 5,
+                item: 0,
+                statement: 0
+            })
+    );
+    assert!(rt; fault_of_choice(alloc, done())?.is_none());
     Ok(())
 }
