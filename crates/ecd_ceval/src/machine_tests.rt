@@ -1,10 +1,11 @@
 //! A machine and all of its calls, on a program that is validated.
 
-ghost use Rattle.std.specs.Prelude.{IfOk, ◌<◌, length};
+ghost use Rattle.std.specs.Prelude.{IfOk, Some, ◌≡◌, ◌<◌, [], ◌∷◌, codes, length, slice_get};
+ghost use Rattle.ecd_cast.specs.declared.tree.CellKind.TheVariants.{Number as ANumberCell, Pointer as APointerCell};
 ghost use Rattle.ecd_cast.specs.Validity.{structs_of};
 ghost use Rattle.ecd_cast.specs.Spelling.{IsSpelledStmt, IsSpelledBlock, IsSpelledItem, IsSpelledProgram};
 
-use crate::machine::{Arg, Block, BlockList, Machine};
+use crate::machine::{Arg, Block, BlockList, Halt, Machine};
 use ecd_cast::build::{name, one, set_cell, var};
 use ecd_cast::tree::{
     CItem, CItemList, CellInfo, CellInfoList, CellKind, Expr, Function, Param, ParamKind,
@@ -88,7 +89,8 @@ fn look(alloc: Global) -> Result<CItem, OutOfMemory>
 
 /// `struct s0 { uint64_t v; const uint8_t *p; };`
 fn declaration(alloc: Global) -> Result<StructDecl, OutOfMemory>
-    ensures { IfOk result (λ s. IsSpelledItem (CItem.Struct s)) }
+    ensures is { IfOk result (λ s. s ≡ record { name = codes "s0"; cells = record { name = codes "v"; kind = ANumberCell } ∷ record { name = codes "p"; kind = APointerCell } ∷ [] }) }
+    ensures spelled { IfOk result (λ s. IsSpelledItem (CItem.Struct s)) }
 {
     let mut cells = CellInfoList::new(alloc);
     cells.push(CellInfo {
@@ -108,6 +110,7 @@ fn declaration(alloc: Global) -> Result<StructDecl, OutOfMemory>
 fn program(alloc: Global) -> Result<Program, OutOfMemory>
     ensures spelled { IfOk result (λ p. IsSpelledProgram p) }
     ensures has_struct { IfOk result (λ p. 0 < length (structs_of p.items)) }
+    ensures first { IfOk result (λ p. slice_get (structs_of p.items) 0 ≡ Some (record { name = codes "s0"; cells = record { name = codes "v"; kind = ANumberCell } ∷ record { name = codes "p"; kind = APointerCell } ∷ [] })) }
 {
     let mut items = CItemList::new(alloc);
     items.push(CItem::Struct(declaration(alloc)?))?;
@@ -151,5 +154,44 @@ fn a_machine_answers_the_same_each_time(rt: HostRuntime) -> Result<(), Fail> {
     };
     assert!(rt; machine.cells(2) == [Cell::Number(0x102), there].as_slice());
     assert!(rt; machine.output(1) == [2, 0xff].as_slice());
+    Ok(())
+}
+
+#[test]
+fn a_view_is_a_part_of_the_buffer_and_may_outlive_the_machine(rt: HostRuntime) -> Result<(), Fail> {
+    let alloc = rt.alloc();
+    let valid = validate(alloc, program(alloc)?)?;
+    let buffer = [2, 7, 9, 1];
+    let mut blocks = BlockList::new(alloc);
+    blocks.push(Block::Fixed(buffer.as_slice()))?;
+    blocks.push(Block::Cells(0))?;
+    let mut machine = Machine::prepare(alloc, &valid, blocks)?;
+    let there = Cell::Bytes {
+        block: 0,
+        offset: 1,
+    };
+    machine.set(1, 0, Cell::Number(9));
+    machine.set(1, 1, there);
+    assert!(rt; machine.cells(1) == [Cell::Number(9), there].as_slice());
+    let view = machine.view(1, 1, 2);
+    drop(machine);
+    assert!(rt; view == [7, 9].as_slice());
+    Ok(())
+}
+
+#[test]
+fn halts_are_told_in_words(rt: HostRuntime) -> Result<(), Fail> {
+    let stuck = Halt::Stuck {
+        reason: 1,
+        item: 0,
+        statement: 2,
+    };
+    for (halt, words) in [
+        (stuck, "stuck 1 item 0 statement 2"),
+        (Halt::Spent { steps: 7 }, "spent 7"),
+        (Halt::OutOfMemory { steps: 7 }, "out of memory"),
+    ] {
+        assert_eq!(rt; halt.to_string(rt.alloc())?.as_str(), words);
+    }
     Ok(())
 }
