@@ -27,3 +27,5 @@ pub mod SoundScopes
 pub mod SoundRuns
 pub mod SoundStmts
 pub mod SoundFiles
+pub mod StuckPlaces
+pub mod DeepestChains

@@ -18,3 +18,5 @@ pub mod Rules
 pub mod Laws
 pub mod Fitting
 pub mod Safety
+pub mod Stuck
+pub mod Deepest

@@ -2,6 +2,8 @@
 
 ghost use Rattle.ecd_cast.specs.Laws.{MeaningIsKept, ValidityIsKept, FirstFault, Sequence, SequenceReturns, LoopFalls, LoopReturns, Choice, Call, CallDeclares, Repetition, OtherBlocks, WritesMakeMemory, ActiveCalls, Steps};
 ghost use Rattle.ecd_cast.specs.Safety.{ValidCalls};
+ghost use Rattle.ecd_cast.specs.Deepest.{HasDeepestChain};
+ghost use Rattle.ecd_cast.specs.Stuck.{StuckPlaces};
 
 /// Items behind a function change nothing of what it does, and nothing of an item's validity.
 pub fn items_behind()
@@ -53,9 +55,19 @@ pub fn active_calls()
     ensures { ActiveCalls }
 {}
 
+/// Some chain of calls is as long as the call depth: each of its functions calls the next by its name, which stands before it.
+pub fn deepest_chain()
+    ensures { HasDeepestChain }
+{}
+
 /// A call of a valid program, with arguments that fit in a memory whose cells have the kinds of their structs, returns or is stuck for one of the reasons 1 to 5, and the memory keeps the kinds.
 pub fn valid_calls()
     ensures { ValidCalls }
+{}
+
+/// A call that is stuck for one of the reasons 1 to 5 is stuck at a statement of a function of the program.
+pub fn stuck_places()
+    ensures { StuckPlaces }
 {}
 
 /// The first steps of a run.
