@@ -29,3 +29,4 @@ pub mod SoundStmts
 pub mod SoundFiles
 pub mod StuckPlaces
 pub mod DeepestChains
+pub mod LongestChains

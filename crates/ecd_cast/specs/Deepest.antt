@@ -1,5 +1,5 @@
 -- Chains of calls, by the numbers of their functions.
-use Rattle.std.specs.Prelude.{ℕ, ◌≡◌, ◌<◌, Bool, true, false, ◌||◌, List, [], ◌∷◌, Some, slice_get, length, bytes_eq}
+use Rattle.std.specs.Prelude.{ℕ, ◌≡◌, ◌<◌, ◌≤◌, Bool, true, false, ◌||◌, List, [], ◌∷◌, Some, slice_get, length, bytes_eq}
 use Rattle.ecd_cast.specs.declared.tree.Source.{Source}
 use Rattle.ecd_cast.specs.declared.tree.Source.TheVariants.{Value as FromValue, Call as FromCall}
 use Rattle.ecd_cast.specs.declared.tree.Stmt.{Stmt, Row_of-Stmt, end_of-Stmt, more_of-Stmt}
@@ -8,7 +8,8 @@ use Rattle.ecd_cast.specs.declared.tree.Function.{Function}
 use Rattle.ecd_cast.specs.declared.tree.CItem.{CItem}
 use Rattle.ecd_cast.specs.declared.tree.CItem.TheVariants.{Function as AFunction}
 use Rattle.ecd_cast.specs.Memory.{Name}
-use Rattle.ecd_cast.specs.Validity.{call_depth_of}
+use Rattle.ecd_cast.specs.declared.tree.Program.{Program}
+use Rattle.ecd_cast.specs.Validity.{IsValid, call_depth_of}
 
 -- ---- whether a function of this name is called
 
@@ -65,3 +66,7 @@ pub record DeepestChain (items : List CItem) : Type 0 where
 -- every program has one
 abbrev pub HasDeepestChain : Type 0
 HasDeepestChain = (items : List CItem) → DeepestChain items
+
+-- in a valid program none is longer
+abbrev pub HasNoLongerChain : Type 0
+HasNoLongerChain = (p : Program) (chain : List ℕ) → IsValid p → IsChain p.items chain → length chain ≤ call_depth_of p.items

@@ -2,7 +2,7 @@
 
 ghost use Rattle.ecd_cast.specs.Laws.{MeaningIsKept, ValidityIsKept, FirstFault, Sequence, SequenceReturns, LoopFalls, LoopReturns, Choice, Call, CallDeclares, Repetition, OtherBlocks, WritesMakeMemory, ActiveCalls, Steps};
 ghost use Rattle.ecd_cast.specs.Safety.{ValidCalls};
-ghost use Rattle.ecd_cast.specs.Deepest.{HasDeepestChain};
+ghost use Rattle.ecd_cast.specs.Deepest.{HasDeepestChain, HasNoLongerChain};
 ghost use Rattle.ecd_cast.specs.Stuck.{StuckPlaces};
 
 /// Items behind a function change nothing of what it does, and nothing of an item's validity.
@@ -55,9 +55,10 @@ pub fn active_calls()
     ensures { ActiveCalls }
 {}
 
-/// Some chain of calls is as long as the call depth: each of its functions calls the next by its name, which stands before it.
+/// Some chain of calls is as long as the call depth, and in a valid program none is longer: each function of a chain calls the next by its name, which stands before it.
 pub fn deepest_chain()
-    ensures { HasDeepestChain }
+    ensures some { HasDeepestChain }
+    ensures longest { HasNoLongerChain }
 {}
 
 /// A call of a valid program, with arguments that fit in a memory whose cells have the kinds of their structs, returns or is stuck for one of the reasons 1 to 5, and the memory keeps the kinds.
