@@ -85,7 +85,7 @@ fn block_of(alloc: Global, first: Stmt, second: Stmt) -> Result<StmtList, OutOfM
     Ok(block)
 }
 
-/// `uint64_t fill(struct cells *out) { body }`
+/// `uint64_t name(params) { body }`
 fn fill(name: Name, params: ParamList, body: StmtList) -> CItem
     requires name { IsName name }
     requires some { 0 < length params }
