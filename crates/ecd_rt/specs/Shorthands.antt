@@ -1,0 +1,40 @@
+-- Shorthands for the trees of functions.
+use Rattle.std.specs.Prelude.{ℕ, List, [], ◌∷◌}
+use Rattle.ecd_cast.specs.declared.tree.Op.{Op}
+use Rattle.ecd_cast.specs.declared.tree.Op.TheVariants.{Add}
+use Rattle.ecd_cast.specs.declared.tree.Expr.{Expr}
+use Rattle.ecd_cast.specs.declared.tree.Expr.TheVariants.{Number, Var, Binary}
+use Rattle.ecd_cast.specs.declared.tree.Source.TheVariants.{Value as FromValue, Call as FromCall}
+use Rattle.ecd_cast.specs.declared.tree.Stmt.{Stmt}
+use Rattle.ecd_cast.specs.declared.tree.Stmt.TheVariants.{Number as DeclNumber, If, Return}
+use Rattle.ecd_cast.specs.declared.tree.Param.{Param}
+use Rattle.ecd_cast.specs.declared.tree.ParamKind.TheVariants.{Number as NumberParam, ReadPointer as ReadPointerParam}
+use Rattle.ecd_cast.specs.Memory.{Name}
+
+-- `uint64_t x`
+abbrev pub number : Name → Param
+number x = record { name = x; kind = NumberParam }
+
+-- `const uint8_t *x`
+abbrev pub pointer : Name → Param
+pointer x = record { name = x; kind = ReadPointerParam }
+
+-- `(x + n)`
+abbrev pub plus : Name → ℕ → Expr
+plus x n = Binary Add (Var x) (Number n)
+
+-- `uint64_t x = e;`
+abbrev pub let_number : Name → Expr → Stmt
+let_number x e = DeclNumber x (FromValue e)
+
+-- `uint64_t x = g(args);`
+abbrev pub let_call : Name → Name → List Expr → Stmt
+let_call x g args = DeclNumber x (FromCall g args)
+
+-- `if (left op right) { return e; } else { }`
+abbrev pub guard : Op → Expr → Expr → Expr → Stmt
+guard op left right e = If (Binary op left right) (Return e ∷ []) []
+
+-- `if (left op right) { uint64_t x = g(args); return x; } else { }`
+abbrev pub guard_call : Op → Expr → Expr → Name → Name → List Expr → Stmt
+guard_call op left right x g args = If (Binary op left right) (let_call x g args ∷ Return (Var x) ∷ []) []

@@ -1,0 +1,58 @@
+-- The variables and parameters of the emitted functions.
+use Rattle.std.specs.Prelude.{codes}
+use Rattle.ecd_cast.specs.Memory.{Name}
+
+-- the buffer, its length and a place in it
+abbrev pub buf : Name
+buf = codes "buf"
+
+abbrev pub len : Name
+len = codes "len"
+
+abbrev pub at : Name
+at = codes "at"
+
+-- the two halves of a number
+abbrev pub high : Name
+high = codes "high"
+
+abbrev pub low : Name
+low = codes "low"
+
+-- of a head: its first byte, additional information, size, argument and place behind it
+abbrev pub first : Name
+first = codes "first"
+
+abbrev pub info : Name
+info = codes "info"
+
+abbrev pub size : Name
+size = codes "size"
+
+abbrev pub argument : Name
+argument = codes "argument"
+
+abbrev pub argument16 : Name
+argument16 = codes "argument16"
+
+abbrev pub argument32 : Name
+argument32 = codes "argument32"
+
+abbrev pub argument64 : Name
+argument64 = codes "argument64"
+
+abbrev pub least : Name
+least = codes "least"
+
+abbrev pub end : Name
+end = codes "end"
+
+-- what is asked of a head
+abbrev pub major : Name
+major = codes "major"
+
+abbrev pub lo : Name
+lo = codes "lo"
+
+abbrev pub hi : Name
+hi = codes "hi"

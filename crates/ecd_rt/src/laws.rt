@@ -1,0 +1,13 @@
+//! Facts about the functions' meanings, each the contract of a function that does nothing.
+
+ghost use Rattle.ecd_rt.specs.Standing.{HeadsAreKept, HeadsEnd};
+
+/// What is put behind the functions over heads, under other names, changes nothing of them.
+pub fn heads_are_kept()
+    ensures { HeadsAreKept }
+{}
+
+/// `head_within` answers the one place where a head of its kind ends, or 0.
+pub fn heads_end()
+    ensures { HeadsEnd }
+{}
