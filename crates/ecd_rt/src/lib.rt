@@ -9,6 +9,8 @@ mod firsts;
 pub mod laws;
 mod loads;
 mod shorthands;
+#[cfg(test)]
+mod tests;
 mod whole_heads;
 
 use crate::firsts::{head_least, head_size};
