@@ -13,8 +13,9 @@ use Rattle.ecd_cast.proofs.Calculus.{calls_kept}
 use Rattle.ecd_rt.specs.Windows.{Callee}
 use Rattle.ecd_rt.specs.Firsts.{size_from, least_from}
 use Rattle.ecd_rt.specs.Meanings.{LoadsNumber, OfFirst, HeadArgument, HeadEnd, HeadWithin}
+use Rattle.ecd_rt.specs.Compare.{compare_bytes, ComparesBytes}
 use Rattle.ecd_rt.specs.Heads.{head_names, load_be16, load_be32, load_be64, head_size, head_least, head_argument, head_end, head_within}
-use Rattle.ecd_rt.specs.Standing.{AreNew, IsAmong, HeadsAreThere, HeadsMean, HeadsAreKept}
+use Rattle.ecd_rt.specs.Standing.{AreNew, IsAmong, HeadsAreThere, HeadsMean, HeadsAreKept, ComparisonIsKept}
 
 -- ---- what a function does
 
@@ -65,3 +66,6 @@ there_kept items more h = record {
 
 pub heads_are_kept : HeadsAreKept
 heads_are_kept = record { there = there_kept; mean = mean_kept }
+
+pub comparison_is_kept : ComparisonIsKept
+comparison_is_kept = record { there = among_kept compare_bytes; mean = λ items more new h. callee_kept ComparesBytes items more (codes "compare_bytes") new h }

@@ -6,3 +6,4 @@ pub mod Stands
 pub mod Kept
 pub mod Valid
 pub mod Placed
+pub mod Comparing

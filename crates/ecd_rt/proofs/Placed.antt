@@ -30,7 +30,7 @@ use Rattle.ecd_rt.proofs.Valid.{IsFree, be16_valid, be32_valid, be64_valid, size
 same_name : (g : Name) → bytes_eq g g ≡ true
 same_name g = (bytes_eq-Decides g g).1 refl
 
-last_call : (items : List CItem) (f : Function) → called (calls_of items) (0 + length items) f ≡ calls_of (items ++ AFunction f ∷ []) f.name
+pub last_call : (items : List CItem) (f : Function) → called (calls_of items) (0 + length items) f ≡ calls_of (items ++ AFunction f ∷ []) f.name
 last_call items f = λ i vs m. last_is vs m i
   where
     last_is : (vs : _) (m : _) → called (calls_of items) (0 + length items) f vs m ≡ calls_of (items ++ AFunction f ∷ []) f.name vs m
@@ -136,7 +136,7 @@ module _ (old : List CItem) where
 
 -- ---- the names behind old items that have none of them
 
-free_of : (items : List CItem) (g : Name) → IsNew g items → IsFree g items
+pub free_of : (items : List CItem) (g : Name) → IsNew g items → IsFree g items
 free_of [] g new = refl
 free_of (AStruct s ∷ is) g new = free_of is g new
 free_of (AFunction f ∷ is) g new = rw new.0 (free_of is g new.1)
@@ -146,7 +146,7 @@ new_behind [] front g h k = k
 new_behind (AStruct s ∷ is) front g h k = new_behind is front g h k
 new_behind (AFunction f ∷ is) front g h k = (h.0, new_behind is front g h.1 k)
 
-named_behind : (old front : List CItem) (g : Name) → IsNew g old → function_named (functions_of (old ++ front)) g ≡ function_named (functions_of front) g
+pub named_behind : (old front : List CItem) (g : Name) → IsNew g old → function_named (functions_of (old ++ front)) g ≡ function_named (functions_of front) g
 named_behind [] front g new = refl
 named_behind (AStruct s ∷ is) front g new = named_behind is front g new
 named_behind (AFunction f ∷ is) front g new = rw new.0 (named_behind is front g new.1)

@@ -5,3 +5,4 @@ pub mod Windows
 pub mod Firsts
 pub mod Meanings
 pub mod Standing
+pub mod Compare

@@ -11,6 +11,7 @@ use Rattle.ecd_head.specs.Fault.{head_at}
 use Rattle.ecd_rt.specs.Windows.{IsBytes, IsEnd}
 use Rattle.ecd_rt.specs.Firsts.{size_from, least_from}
 use Rattle.ecd_rt.specs.Meanings.{LoadsNumber, OfFirst, HeadArgument, HeadEnd, HeadWithin, HeadStands, end_within}
+use Rattle.ecd_rt.specs.Compare.{compare_bytes, ComparesBytes}
 use Rattle.ecd_rt.specs.Heads.{head_names, load_be16, load_be32, load_be64, head_size, head_least, head_argument, head_end, head_within}
 
 -- no function of these items has one of the names
@@ -54,3 +55,8 @@ pub record HeadsAreKept : Type 0 where
 -- what head_within answers is the one place where such a head ends, or 0
 abbrev pub HeadsEnd : Type 0
 HeadsEnd = (major lo hi at : ℕ) (bytes : List ℕ) → IsBytes bytes → IsEnd (HeadStands major lo hi bytes at) (end_within major lo hi at (head_at (drop at bytes)))
+
+-- and nothing of the function that compares bytes
+pub record ComparisonIsKept : Type 0 where
+  pub there : (items more : List CItem) → IsAmong compare_bytes items → IsAmong compare_bytes (items ++ more)
+  pub mean : (items more : List CItem) → IsNew (codes "compare_bytes") more → ComparesBytes (calls_of items (codes "compare_bytes")) → ComparesBytes (calls_of (items ++ more) (codes "compare_bytes"))

@@ -56,3 +56,16 @@ lo = codes "lo"
 
 abbrev pub hi : Name
 hi = codes "hi"
+
+-- the two sides of a comparison, and their lengths
+abbrev pub left : Name
+left = codes "left"
+
+abbrev pub left_len : Name
+left_len = codes "left_len"
+
+abbrev pub right : Name
+right = codes "right"
+
+abbrev pub right_len : Name
+right_len = codes "right_len"

@@ -1,6 +1,6 @@
 //! Facts about the functions' meanings, each the contract of a function that does nothing.
 
-ghost use Rattle.ecd_rt.specs.Standing.{HeadsAreKept, HeadsEnd};
+ghost use Rattle.ecd_rt.specs.Standing.{ComparisonIsKept, HeadsAreKept, HeadsEnd};
 
 /// What is put behind the functions over heads, under other names, changes nothing of them.
 pub fn heads_are_kept()
@@ -10,4 +10,9 @@ pub fn heads_are_kept()
 /// `head_within` answers the one place where a head of its kind ends, or 0.
 pub fn heads_end()
     ensures { HeadsEnd }
+{}
+
+/// What is put behind the function that compares bytes, under other names, changes nothing of it.
+pub fn comparison_is_kept()
+    ensures { ComparisonIsKept }
 {}

@@ -5,6 +5,7 @@ ghost use Rattle.std.specs.Prelude.{◌≡◌, ◌++◌, OnOk};
 ghost use Rattle.ecd_rt.specs.Heads.{head_functions, head_names};
 ghost use Rattle.ecd_rt.specs.Standing.{AreNew, HeadsAreThere, HeadsMean};
 
+mod compare;
 mod firsts;
 pub mod laws;
 mod loads;
@@ -16,6 +17,7 @@ mod whole_heads;
 use crate::firsts::{head_least, head_size};
 use crate::loads::{load_be16, load_be32, load_be64};
 use crate::whole_heads::{head_argument, head_end, head_within};
+pub use compare::comparison;
 use ecd_cast::builder::Builder;
 use ecd_cast::tree::CItem;
 use ecd_list::OutOfMemory;

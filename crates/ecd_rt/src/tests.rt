@@ -1,6 +1,6 @@
 //! The emitted functions, run over bytes, against the reader of heads.
 
-use crate::heads;
+use crate::{comparison, heads};
 use ecd_cast::builder::{Builder, Valid};
 use ecd_ceval::{Arg, Block, BlockList, Machine};
 use ecd_head::read_head;
@@ -202,6 +202,49 @@ fn numbers_and_first_bytes_are_read_alone(rt: HostRuntime) -> Result<(), Fail> {
         let args = [Arg::Number(*first)];
         assert_eq!(rt; ask(&mut machine, "head_size", &args, 14), Some(*size));
         assert_eq!(rt; ask(&mut machine, "head_least", &args, 12), Some(*least));
+    }
+    Ok(())
+}
+
+/// `compare_bytes` of the bytes before a place and those from it on.
+fn compared<'a>(machine: &mut Machine<'a>, middle: u64, length: u64) -> Option<u64> {
+    let left = Arg::Bytes {
+        block: 0,
+        offset: 0,
+    };
+    let right = Arg::Bytes {
+        block: 0,
+        offset: middle,
+    };
+    let right_len = Arg::Number(length.saturating_sub(middle));
+    let args = [left, Arg::Number(middle), right, right_len];
+    let limit = middle.saturating_mul(7).saturating_add(7);
+    ask(machine, "compare_bytes", &args, limit)
+}
+
+#[test]
+fn bytes_are_compared_from_the_left(rt: HostRuntime) -> Result<(), Fail> {
+    let rows: [(&[u8], u64, u64); 11] = [
+        (&[], 0, 1),
+        (&[7], 0, 0),
+        (&[7], 1, 2),
+        (&[7, 7], 1, 1),
+        (&[6, 7], 1, 0),
+        (&[8, 7], 1, 2),
+        (&[1, 2, 1], 2, 2),
+        (&[1, 1, 2], 1, 0),
+        (&[1, 2, 3, 1, 2, 4], 3, 0),
+        (&[2, 0, 0, 1, 9, 9], 3, 2),
+        (&[255, 0, 255, 0], 2, 1),
+    ];
+    let alloc = rt.alloc();
+    let mut builder = Builder::new(alloc);
+    comparison(alloc, &mut builder)?;
+    let valid = builder.finish();
+    for (bytes, middle, order) in rows.iter() {
+        let mut machine = machine(alloc, &valid, bytes)?;
+        let length = bytes.len() as u64;
+        assert_eq!(rt; compared(&mut machine, *middle, length), Some(*order));
     }
     Ok(())
 }
