@@ -51,6 +51,8 @@ const FIELDS: &[Rows] = &[
             Fails("a2616101617a01"),
         ],
     ),
+    // Two fields of one key: a pair that suits the one is not blocked by the other.
+    ("{\"a\":u,?\"a\":t}", &[Has("a1616101", "(1,?)")]),
     // A lower bound above 1 asks for the pair.
     ("{+2\"a\":u}", &[Has("a1616101", "(1)"), Fails("a0")]),
 ];
@@ -64,6 +66,7 @@ fn a_needed_field_is_its_value_itself(rt: HostRuntime) -> Result<(), Fail> {
 const KEYS: &[Rows] = &[
     // A field whose key is no literal fits no map.
     ("{?t:u}", &[Has("a0", "(?)"), Fails("a1616101")]),
+    ("{t:u}", &[Fails("a0"), Fails("a1616101")]),
     ("{?u0-1:u}", &[Has("a0", "(?)"), Fails("a10001")]),
     (
         "{?n0:u,*(u/n)=>a1}",

@@ -76,6 +76,11 @@ const TAKEN: &[Rows] = &[
         "{?<{\"a\":u,\"b\":u}>,*t=>u}",
         &[Has("a1616101", "(?,*(('61',1)))")],
     ),
+    // The way fails elsewhere, and a later one takes the pair.
+    (
+        "{?<{\"a\":u,\"b\":u}{\"a\"=>u}>,*t=>u}",
+        &[Has("a1616101", "(1:(1),*())")],
+    ),
     // A field of an earlier tried way stops the pair that the taken way takes.
     (
         "{?<{\"a\":u0-9}{\"a\":u10-99}>,*t=>u}",
@@ -99,7 +104,8 @@ const WAY_VALUES: &[Rows] = &[
             Fails("a2616101616302"),
         ],
     ),
-    // A way without a needed field is taken in every map.
+    // A way without a needed field is taken in every map, and so is one without a field.
+    ("{?<{}>}", &[Has("a0", "(0:())"), Fails("a1616101")]),
     (
         "{?<{?\"a\":u}>}",
         &[Has("a0", "(0:(?))"), Lacks("a0", "(?)")],
