@@ -1,7 +1,7 @@
 -- What the function that compares bytes answers, and that it is valid behind any items.
-use Rattle.std.proofs.Common.{◌≡◌, ℕ, suc, ◌+◌, ◌*◌, ◌<◌, ◌≤◌, List, [], ◌∷◌, ◌++◌, length, refl, ap, sym, subst, ◌∙◌, arith, Bool, true, false, drop, get_or, add-one, rules}
+use Rattle.std.proofs.Common.{◌≡◌, ℕ, suc, ◌+◌, ◌*◌, ◌<◌, ◌≤◌, List, [], ◌∷◌, ◌++◌, length, refl, ap, sym, subst, ◌∙◌, arith, true, false, drop, get_or, add-one, rules}
 use Rattle.std.specs.Prelude.{codes, nat_eq, nat_lt}
-use Rattle.std.specs.Ordering.{nat_cmp, ordering_then}
+use Rattle.std.specs.Ordering.{nat_cmp}
 use Rattle.std.specs.Cmp.Lexicographic.{slice_cmp}
 use Rattle.std.specs.declared.cmp.Ordering.{Ordering}
 use Rattle.std.specs.declared.cmp.Ordering.TheVariants.{Less, Equal, Greater}
@@ -17,7 +17,7 @@ use Rattle.ecd_cast.specs.declared.value.Value.{Value}
 use Rattle.ecd_cast.specs.declared.value.Value.TheVariants.{Number as Num, Bytes as Ptr}
 use Rattle.ecd_cast.specs.Memory.{Memory}
 use Rattle.ecd_cast.specs.Expressions.{Scopes}
-use Rattle.ecd_cast.specs.Meaning.{Calls, called, calls_of, frame_of, leave}
+use Rattle.ecd_cast.specs.Meaning.{Calls, called, calls_of, leave}
 use Rattle.ecd_cast.specs.Kept.{IsNew}
 use Rattle.ecd_cast.specs.Validity.{IsValidAfter}
 use Rattle.ecd_cast.specs.Spelling.{IsSpelledItem}

@@ -14,8 +14,9 @@ use Rattle.ecd_rt.specs.Windows.{Callee}
 use Rattle.ecd_rt.specs.Firsts.{size_from, least_from}
 use Rattle.ecd_rt.specs.Meanings.{LoadsNumber, OfFirst, HeadArgument, HeadEnd, HeadWithin}
 use Rattle.ecd_rt.specs.Compare.{compare_bytes, ComparesBytes}
+use Rattle.ecd_rt.specs.Utf8.{utf8_valid, ChecksUtf8}
 use Rattle.ecd_rt.specs.Heads.{head_names, load_be16, load_be32, load_be64, head_size, head_least, head_argument, head_end, head_within}
-use Rattle.ecd_rt.specs.Standing.{AreNew, IsAmong, HeadsAreThere, HeadsMean, HeadsAreKept, ComparisonIsKept}
+use Rattle.ecd_rt.specs.Standing.{AreNew, IsAmong, HeadsAreThere, HeadsMean, HeadsAreKept, ComparisonIsKept, Utf8IsKept}
 
 -- ---- what a function does
 
@@ -69,3 +70,6 @@ heads_are_kept = record { there = there_kept; mean = mean_kept }
 
 pub comparison_is_kept : ComparisonIsKept
 comparison_is_kept = record { there = among_kept compare_bytes; mean = λ items more new h. callee_kept ComparesBytes items more (codes "compare_bytes") new h }
+
+pub utf8_is_kept : Utf8IsKept
+utf8_is_kept = record { there = among_kept utf8_valid; mean = λ items more new h. callee_kept ChecksUtf8 items more (codes "utf8_valid") new h }

@@ -7,3 +7,5 @@ pub mod Kept
 pub mod Valid
 pub mod Placed
 pub mod Comparing
+pub mod States
+pub mod Texts

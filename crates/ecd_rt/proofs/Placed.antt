@@ -37,7 +37,7 @@ last_call items f = λ i vs m. last_is vs m i
     last_is vs m = rw (calls_append, with_item, same_name f.name) refl
 
 -- its meaning, behind old items and some of the functions
-placed_last : (P : Callee → Type 0) (old front : List CItem) (f : Function) → P (called (calls_of (old ++ front)) (0 + length (old ++ front)) f) → P (calls_of (old ++ (front ++ AFunction f ∷ [])) f.name)
+pub placed_last : (P : Callee → Type 0) (old front : List CItem) (f : Function) → P (called (calls_of (old ++ front)) (0 + length (old ++ front)) f) → P (calls_of (old ++ (front ++ AFunction f ∷ [])) f.name)
 placed_last P old front f h =
     subst (λ (items : List CItem). P (calls_of items f.name)) (append_assoc old front (AFunction f ∷ [])) (subst P (last_call (old ++ front) f) h)
 
@@ -151,23 +151,23 @@ named_behind [] front g new = refl
 named_behind (AStruct s ∷ is) front g new = named_behind is front g new
 named_behind (AFunction f ∷ is) front g new = rw new.0 (named_behind is front g new.1)
 
-free_behind : (old front : List CItem) (g : Name) → IsNew g old → IsNew g front → IsFree g (old ++ front)
+pub free_behind : (old front : List CItem) (g : Name) → IsNew g old → IsNew g front → IsFree g (old ++ front)
 free_behind old front g h k = free_of (old ++ front) g (new_behind old front g h k)
 
-module _ (old : List CItem) (new : AreNew head_names old) where
-  among : (front : List CItem) (f : Function) (g : Name) → f.name ≡ g → IsNew g old → function_named (functions_of front) g ≡ Some f → IsAmong f (old ++ front)
-  among front f g e h k = ap (λ (x : Name). function_named (functions_of (old ++ front)) x) e ∙ (named_behind old front g h ∙ k)
+pub among : (old front : List CItem) (f : Function) (g : Name) → f.name ≡ g → IsNew g old → function_named (functions_of front) g ≡ Some f → IsAmong f (old ++ front)
+among old front f g e h k = ap (λ (x : Name). function_named (functions_of (old ++ front)) x) e ∙ (named_behind old front g h ∙ k)
 
+module _ (old : List CItem) (new : AreNew head_names old) where
   pub valid_1 : IsValidAfter (old ++ []) (AFunction load_be16)
   valid_1 = be16_valid (old ++ []) (free_behind old [] (codes "load_be16") new.0 tt)
 
   pub valid_2 : IsValidAfter (old ++ first_1) (AFunction load_be32)
   unfolding load_be16
-  valid_2 = be32_valid (old ++ first_1) (free_behind old first_1 (codes "load_be32") new.1.0 (refl, tt)) (among first_1 load_be16 (codes "load_be16") refl new.0 refl)
+  valid_2 = be32_valid (old ++ first_1) (free_behind old first_1 (codes "load_be32") new.1.0 (refl, tt)) (among old first_1 load_be16 (codes "load_be16") refl new.0 refl)
 
   pub valid_3 : IsValidAfter (old ++ first_2) (AFunction load_be64)
   unfolding load_be16 load_be32
-  valid_3 = be64_valid (old ++ first_2) (free_behind old first_2 (codes "load_be64") new.1.1.0 (refl, (refl, tt))) (among first_2 load_be32 (codes "load_be32") refl new.1.0 refl)
+  valid_3 = be64_valid (old ++ first_2) (free_behind old first_2 (codes "load_be64") new.1.1.0 (refl, (refl, tt))) (among old first_2 load_be32 (codes "load_be32") refl new.1.0 refl)
 
   pub valid_4 : IsValidAfter (old ++ first_3) (AFunction head_size)
   unfolding load_be16 load_be32 load_be64
@@ -180,29 +180,29 @@ module _ (old : List CItem) (new : AreNew head_names old) where
   pub valid_6 : IsValidAfter (old ++ first_5) (AFunction head_argument)
   unfolding load_be16 load_be32 load_be64 head_size head_least
   valid_6 = argument_valid (old ++ first_5) (free_behind old first_5 (codes "head_argument") new.1.1.1.1.1.0 (refl, (refl, (refl, (refl, (refl, tt))))))
-      (among first_5 load_be16 (codes "load_be16") refl new.0 refl) (among first_5 load_be32 (codes "load_be32") refl new.1.0 refl) (among first_5 load_be64 (codes "load_be64") refl new.1.1.0 refl)
+      (among old first_5 load_be16 (codes "load_be16") refl new.0 refl) (among old first_5 load_be32 (codes "load_be32") refl new.1.0 refl) (among old first_5 load_be64 (codes "load_be64") refl new.1.1.0 refl)
 
   pub valid_7 : IsValidAfter (old ++ first_6) (AFunction head_end)
   unfolding load_be16 load_be32 load_be64 head_size head_least head_argument
   valid_7 = end_valid (old ++ first_6) (free_behind old first_6 (codes "head_end") new.1.1.1.1.1.1.0 (refl, (refl, (refl, (refl, (refl, (refl, tt)))))))
-      (among first_6 head_size (codes "head_size") refl new.1.1.1.0 refl) (among first_6 head_least (codes "head_least") refl new.1.1.1.1.0 refl) (among first_6 head_argument (codes "head_argument") refl new.1.1.1.1.1.0 refl)
+      (among old first_6 head_size (codes "head_size") refl new.1.1.1.0 refl) (among old first_6 head_least (codes "head_least") refl new.1.1.1.1.0 refl) (among old first_6 head_argument (codes "head_argument") refl new.1.1.1.1.1.0 refl)
 
   pub valid_8 : IsValidAfter (old ++ first_7) (AFunction head_within)
   unfolding load_be16 load_be32 load_be64 head_size head_least head_argument head_end
   valid_8 = within_valid (old ++ first_7) (free_behind old first_7 (codes "head_within") new.1.1.1.1.1.1.1.0 (refl, (refl, (refl, (refl, (refl, (refl, (refl, tt))))))))
-      (among first_7 head_end (codes "head_end") refl new.1.1.1.1.1.1.0 refl) (among first_7 head_argument (codes "head_argument") refl new.1.1.1.1.1.0 refl)
+      (among old first_7 head_end (codes "head_end") refl new.1.1.1.1.1.1.0 refl) (among old first_7 head_argument (codes "head_argument") refl new.1.1.1.1.1.0 refl)
 
   pub heads_are_there : HeadsAreThere (old ++ head_functions)
   unfolding load_be16 load_be32 load_be64 head_size head_least head_argument head_end head_within
   heads_are_there = record {
-    be16 = among head_functions load_be16 (codes "load_be16") refl new.0 refl;
-    be32 = among head_functions load_be32 (codes "load_be32") refl new.1.0 refl;
-    be64 = among head_functions load_be64 (codes "load_be64") refl new.1.1.0 refl;
-    size = among head_functions head_size (codes "head_size") refl new.1.1.1.0 refl;
-    least = among head_functions head_least (codes "head_least") refl new.1.1.1.1.0 refl;
-    argument = among head_functions head_argument (codes "head_argument") refl new.1.1.1.1.1.0 refl;
-    end = among head_functions head_end (codes "head_end") refl new.1.1.1.1.1.1.0 refl;
-    within = among head_functions head_within (codes "head_within") refl new.1.1.1.1.1.1.1.0 refl;
+    be16 = among old head_functions load_be16 (codes "load_be16") refl new.0 refl;
+    be32 = among old head_functions load_be32 (codes "load_be32") refl new.1.0 refl;
+    be64 = among old head_functions load_be64 (codes "load_be64") refl new.1.1.0 refl;
+    size = among old head_functions head_size (codes "head_size") refl new.1.1.1.0 refl;
+    least = among old head_functions head_least (codes "head_least") refl new.1.1.1.1.0 refl;
+    argument = among old head_functions head_argument (codes "head_argument") refl new.1.1.1.1.1.0 refl;
+    end = among old head_functions head_end (codes "head_end") refl new.1.1.1.1.1.1.0 refl;
+    within = among old head_functions head_within (codes "head_within") refl new.1.1.1.1.1.1.1.0 refl;
   }
 
 -- ---- the items, one push after the other

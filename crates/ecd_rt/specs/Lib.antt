@@ -6,3 +6,4 @@ pub mod Firsts
 pub mod Meanings
 pub mod Standing
 pub mod Compare
+pub mod Utf8

@@ -12,6 +12,7 @@ use Rattle.ecd_rt.specs.Windows.{IsBytes, IsEnd}
 use Rattle.ecd_rt.specs.Firsts.{size_from, least_from}
 use Rattle.ecd_rt.specs.Meanings.{LoadsNumber, OfFirst, HeadArgument, HeadEnd, HeadWithin, HeadStands, end_within}
 use Rattle.ecd_rt.specs.Compare.{compare_bytes, ComparesBytes}
+use Rattle.ecd_rt.specs.Utf8.{utf8_valid, ChecksUtf8}
 use Rattle.ecd_rt.specs.Heads.{head_names, load_be16, load_be32, load_be64, head_size, head_least, head_argument, head_end, head_within}
 
 -- no function of these items has one of the names
@@ -60,3 +61,8 @@ HeadsEnd = (major lo hi at : ℕ) (bytes : List ℕ) → IsBytes bytes → IsEnd
 pub record ComparisonIsKept : Type 0 where
   pub there : (items more : List CItem) → IsAmong compare_bytes items → IsAmong compare_bytes (items ++ more)
   pub mean : (items more : List CItem) → IsNew (codes "compare_bytes") more → ComparesBytes (calls_of items (codes "compare_bytes")) → ComparesBytes (calls_of (items ++ more) (codes "compare_bytes"))
+
+-- and nothing of the function that checks UTF-8
+pub record Utf8IsKept : Type 0 where
+  pub there : (items more : List CItem) → IsAmong utf8_valid items → IsAmong utf8_valid (items ++ more)
+  pub mean : (items more : List CItem) → IsNew (codes "utf8_valid") more → ChecksUtf8 (calls_of items (codes "utf8_valid")) → ChecksUtf8 (calls_of (items ++ more) (codes "utf8_valid"))

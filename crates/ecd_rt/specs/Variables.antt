@@ -69,3 +69,16 @@ right = codes "right"
 
 abbrev pub right_len : Name
 right_len = codes "right_len"
+
+-- of a text: its first byte's place, one byte, and how far into a character the bytes are
+abbrev pub text : Name
+text = codes "text"
+
+abbrev pub byte : Name
+byte = codes "byte"
+
+abbrev pub state : Name
+state = codes "state"
+
+abbrev pub begun : Name
+begun = codes "begun"

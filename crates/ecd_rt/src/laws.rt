@@ -1,6 +1,6 @@
 //! Facts about the functions' meanings, each the contract of a function that does nothing.
 
-ghost use Rattle.ecd_rt.specs.Standing.{ComparisonIsKept, HeadsAreKept, HeadsEnd};
+ghost use Rattle.ecd_rt.specs.Standing.{ComparisonIsKept, HeadsAreKept, HeadsEnd, Utf8IsKept};
 
 /// What is put behind the functions over heads, under other names, changes nothing of them.
 pub fn heads_are_kept()
@@ -15,4 +15,9 @@ pub fn heads_end()
 /// What is put behind the function that compares bytes, under other names, changes nothing of it.
 pub fn comparison_is_kept()
     ensures { ComparisonIsKept }
+{}
+
+/// What is put behind the functions that check UTF-8, under other names, changes nothing of them.
+pub fn utf8_is_kept()
+    ensures { Utf8IsKept }
 {}

@@ -12,6 +12,7 @@ mod loads;
 mod shorthands;
 #[cfg(test)]
 mod tests;
+mod utf8;
 mod whole_heads;
 
 use crate::firsts::{head_least, head_size};
@@ -22,6 +23,7 @@ use ecd_cast::builder::Builder;
 use ecd_cast::tree::CItem;
 use ecd_list::OutOfMemory;
 use std::alloc::Global;
+pub use utf8::utf8_check;
 
 /// Puts the functions over heads behind the builder's items: `load_be16`, `load_be32`, `load_be64`, `head_size`,
 /// `head_least`, `head_argument`, `head_end` and `head_within`. None of these names is taken before.
