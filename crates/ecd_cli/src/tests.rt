@@ -488,6 +488,49 @@ fn c_files_and_functions_are_refused(rt: HostRuntime) -> Result<(), Fail> {
     Ok(())
 }
 
+/// A C file whose reader `read_0` sets the cell `v` to the byte at a place, and ends with this statement or none.
+fn byte_reader(alloc: Global, place: &str, last: &str) -> Result<String, OutOfMemory> {
+    let mut text = String::from_str(alloc, "#include <stdint.h>\nenum { call_depth = 1 };\n")?;
+    text.push_str("struct s0 { uint64_t v; };\n")?;
+    text.push_str("uint64_t read_0(const uint8_t *buf, uint64_t len, struct s0 *out) {\n")?;
+    text.push_str("uint64_t n = ")?;
+    text.push_str(place)?;
+    text.push_str(";\nuint64_t x = (uint64_t)buf[n];\nout->v = x;\n")?;
+    text.push_str(last)?;
+    text.push_str("}\n")?;
+    Ok(text)
+}
+
+#[test]
+fn a_byte_is_read_or_lies_behind_the_data(rt: HostRuntime) -> Result<(), Fail> {
+    let (stuck, c_file) = (Status::Stuck, Status::CFile);
+    let end = "return 1ull;\n";
+    for (place, last, status, out, line) in [
+        ("0ull", end, Status::Done, "result 1\nv = 5\n", ""),
+        (
+            "(len + 0ull)",
+            end,
+            stuck,
+            "",
+            "stuck 1 item 1 statement 2\n",
+        ),
+        (
+            "0ull",
+            "",
+            c_file,
+            "",
+            "c file rule C5 item 1 statement 0\n",
+        ),
+    ] {
+        let text = byte_reader(rt.alloc(), place, last)?;
+        let answer = call_on(rt.alloc(), "run s read_0 d 1000", text.as_str())?;
+        assert_eq!(rt; answer.status, status, "{place}");
+        assert_eq!(rt; answer.out.as_slice(), out.as_bytes());
+        assert_eq!(rt; answer.err.as_slice(), line.as_bytes());
+    }
+    Ok(())
+}
+
 /// Files that tell nothing, each with so many bytes 0.
 #[derive(Drop)]
 struct LongFiles {

@@ -8,7 +8,7 @@ use Rattle.ecd_cast.specs.Memory.{Memory, Bytes, Event, WritesCell, writes_of, m
 use Rattle.ecd_cast.specs.Meaning.{Run, Returns, calls_of}
 use Rattle.ecd_cast.specs.Validity.{IsValid, structs_of, functions_of, function_names}
 use Rattle.ecd_compile.specs.Reader.{unit_struct, reader_params}
-use Rattle.ecd_cast.specs.Spelling.{Spells}
+use Rattle.ecd_cast.specs.Spelling.{Spells, IsSpelledProgram}
 use Rattle.ecd_syntax.specs.declared.tree.Tree.{Tree}
 use Rattle.ecd_compile.specs.Schema.{IsSchema, HasCause, IsTold}
 use Rattle.ecd_compile.specs.declared.refusal.Refusal.{Refusal}
@@ -40,12 +40,13 @@ pub record HasInterface (items : List CItem) : Type 0 where
   pub names : function_names items ≡ codes "read_0" ∷ []
   pub params : map (λ f. f.params) (functions_of items) ≡ reader_params ∷ []
 
--- the schema has a tree that is thin, with a number that the program reads, and the text spells the program, which is valid
+-- the schema has a tree that is thin, with a number that the program reads, and the text spells the program, which has a spelling and is valid
 pub record IsCompiled (schema root text : List ℕ) (p : Program) : Type 0 where
   pub tree : Tree
   pub number : ℕ
   pub parsed : IsSchema schema tree
   pub thin : IsThin tree root number
+  pub spelled : IsSpelledProgram p
   pub spells : Spells p text
   pub valid : IsValid p
   pub interface : HasInterface p.items

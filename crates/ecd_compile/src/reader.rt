@@ -2,6 +2,7 @@
 
 ghost use Rattle.std.specs.Prelude.{◌≡◌, [], ◌∷◌, ◌++◌, ◌<◌, IfOk};
 ghost use Rattle.ecd_compile.specs.Reader as spec;
+ghost use Rattle.ecd_cast.specs.Spelling.{IsSpelledProgram};
 ghost use Rattle.ecd_compile.specs.Reads.{ReadsByte, HasInterface};
 
 use ecd_cast::build::{binary, give, load, name, one, set_cell, var, when};
@@ -86,7 +87,9 @@ fn function(alloc: Global, number: u8) -> Result<Function, OutOfMemory>
 
 /// The program whose `read_0` takes the one byte of this number.
 pub fn reader(alloc: Global, number: u8) -> Result<Valid, OutOfMemory>
-    ensures { IfOk result (λ p. ReadsByte number p × HasInterface p.items) }
+    ensures reads { IfOk result (λ p. ReadsByte number p) }
+    ensures interface { IfOk result (λ p. HasInterface p.items) }
+    ensures spelled { IfOk result (λ p. IsSpelledProgram p) }
 {
     let mut builder = Builder::new(alloc);
     builder.push(CItem::Struct(unit_struct(alloc)?))?;

@@ -21,10 +21,14 @@ push-requires-2-clause-valid c =
 pub push-requires-2-clause-spelled : goal.push-requires-2-clause-spelled
 push-requires-2-clause-spelled c = subst (λ (f : Function). IsSpelledItem (AFunction f)) (sym c.in_ok-function.ensures) (reader_spelled c.args.number (omega arith))
 
-pub returns : goal.returns
-returns c =
+all_items : (c : goal.After-finish) → c.finish.result.items ≡ reader_items c.args.number
+all_items c =
     let items = first c.new-builder.result c.push.new.self c.in_ok-unit_struct.field-0 c.in_ok-push.ensures.ok c.new-builder.ensures c.in_ok-unit_struct.ensures in
-    let all : c.push-2.new.self ≡ reader_items c.args.number =
-    c.in_ok-push-2.ensures.ok ∙ (ap (λ (l : List CItem). l ++ AFunction c.in_ok-function.field-0 ∷ []) items ∙ ap (λ (f : Function). AStructDecl unit_struct ∷ (AFunction f ∷ [])) c.in_ok-function.ensures) in
-    let same = c.finish.ensures.items ∙ all in
-    (reader_reads c.args.number c.finish.result same (c.finish.ensures.depth ∙ ap call_depth_of (sym c.finish.ensures.items)), reader_serves c.args.number c.finish.result same)
+    c.finish.ensures.items
+    ∙ (c.in_ok-push-2.ensures.ok ∙ (ap (λ (l : List CItem). l ++ AFunction c.in_ok-function.field-0 ∷ []) items ∙ ap (λ (f : Function). AStructDecl unit_struct ∷ (AFunction f ∷ [])) c.in_ok-function.ensures))
+
+pub returns-clause-reads : goal.returns-clause-reads
+returns-clause-reads c = reader_reads c.args.number c.finish.result (all_items c) (c.finish.ensures.depth ∙ ap call_depth_of (sym c.finish.ensures.items))
+
+pub returns-clause-interface : goal.returns-clause-interface
+returns-clause-interface c = reader_serves c.args.number c.finish.result (all_items c)
