@@ -52,7 +52,7 @@ not-false : (t : Bool) → not t ≡ false → t ≡ true
 not-false true e = refl
 not-false false e = absurd cc
 
-is_ok : (at : ℕ) (r : Result (Head × ℕ) HeadFault) → end_of at r ≢ 0 → (h : Head) × (n : ℕ) × (r ≡ Ok (h, n))
+pub is_ok : (at : ℕ) (r : Result (Head × ℕ) HeadFault) → end_of at r ≢ 0 → (h : Head) × (n : ℕ) × (r ≡ Ok (h, n))
 is_ok at (Err fault) ne = absurd (ne refl)
 is_ok at (Ok x) ne = (x.0, x.1, refl)
 

@@ -9,3 +9,10 @@ pub mod Placed
 pub mod Comparing
 pub mod States
 pub mod Texts
+pub mod Framing
+pub mod Opening
+pub mod Owing
+pub mod Within
+pub mod Meeting
+pub mod Extending
+pub mod Extended

@@ -42,7 +42,7 @@ placed_last P old front f h =
     subst (λ (items : List CItem). P (calls_of items f.name)) (append_assoc old front (AFunction f ∷ [])) (subst P (last_call (old ++ front) f) h)
 
 -- and behind more of them
-kept : (P : Callee → Type 0) (old front back : List CItem) (g : Name) → IsNew g back → P (calls_of (old ++ front) g) → P (calls_of (old ++ (front ++ back)) g)
+pub kept : (P : Callee → Type 0) (old front back : List CItem) (g : Name) → IsNew g back → P (calls_of (old ++ front) g) → P (calls_of (old ++ (front ++ back)) g)
 kept P old front back g new h = subst (λ (items : List CItem). P (calls_of items g)) (append_assoc old front back) (callee_kept P (old ++ front) back g new h)
 
 -- ---- the functions, one behind the other

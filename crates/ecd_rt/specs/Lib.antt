@@ -7,3 +7,6 @@ pub mod Meanings
 pub mod Standing
 pub mod Compare
 pub mod Utf8
+pub mod Framed
+pub mod Extents
+pub mod ExtentsStanding

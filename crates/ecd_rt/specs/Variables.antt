@@ -47,6 +47,19 @@ least = codes "least"
 abbrev pub end : Name
 end = codes "end"
 
+-- of an extent: the place behind one more head and its string, the number of items inside that item, those still owed, and the turn
+abbrev pub next : Name
+next = codes "next"
+
+abbrev pub inside : Name
+inside = codes "inside"
+
+abbrev pub owed : Name
+owed = codes "owed"
+
+abbrev pub turn : Name
+turn = codes "turn"
+
 -- what is asked of a head
 abbrev pub major : Name
 major = codes "major"

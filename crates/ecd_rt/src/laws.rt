@@ -1,5 +1,7 @@
 //! Facts about the functions' meanings, each the contract of a function that does nothing.
 
+ghost use Rattle.ecd_rt.specs.ExtentsStanding.{ExtentsAreKept};
+ghost use Rattle.ecd_rt.specs.Framed.{FramedEndOnce, ValidIsFramed};
 ghost use Rattle.ecd_rt.specs.Standing.{ComparisonIsKept, HeadsAreKept, HeadsEnd, Utf8IsKept};
 
 /// What is put behind the functions over heads, under other names, changes nothing of them.
@@ -20,4 +22,15 @@ pub fn comparison_is_kept()
 /// What is put behind the functions that check UTF-8, under other names, changes nothing of them.
 pub fn utf8_is_kept()
     ensures { Utf8IsKept }
+{}
+
+/// Every valid item is framed, and no encoding of a framed item begins another.
+pub fn framed_items()
+    ensures valid { ValidIsFramed }
+    ensures once { FramedEndOnce }
+{}
+
+/// What is put behind the functions that find the end of an item, under other names, changes nothing of them.
+pub fn extents_are_kept()
+    ensures { ExtentsAreKept }
 {}

@@ -6,6 +6,9 @@ ghost use Rattle.ecd_rt.specs.Heads.{head_functions, head_names};
 ghost use Rattle.ecd_rt.specs.Standing.{AreNew, HeadsAreThere, HeadsMean};
 
 mod compare;
+mod extent;
+#[cfg(test)]
+mod extent_tests;
 mod firsts;
 pub mod laws;
 mod loads;
@@ -22,6 +25,7 @@ pub use compare::comparison;
 use ecd_cast::builder::Builder;
 use ecd_cast::tree::CItem;
 use ecd_list::OutOfMemory;
+pub use extent::extents;
 use std::alloc::Global;
 pub use utf8::utf8_check;
 

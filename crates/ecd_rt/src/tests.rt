@@ -14,7 +14,7 @@ fn program(alloc: Global) -> Result<Valid, OutOfMemory> {
     Ok(builder.finish())
 }
 
-fn machine<'a>(
+pub(crate) fn machine<'a>(
     alloc: Global,
     program: &'a Valid,
     bytes: &'a [u8],
@@ -25,7 +25,12 @@ fn machine<'a>(
 }
 
 /// What a function answers within so many steps.
-fn ask<'a>(machine: &mut Machine<'a>, name: &str, args: &[Arg], limit: u64) -> Option<u64> {
+pub(crate) fn ask<'a>(
+    machine: &mut Machine<'a>,
+    name: &str,
+    args: &[Arg],
+    limit: u64,
+) -> Option<u64> {
     let number = machine.program().function(name)?;
     if !machine.fits(number, args) {
         return None;
@@ -33,7 +38,7 @@ fn ask<'a>(machine: &mut Machine<'a>, name: &str, args: &[Arg], limit: u64) -> O
     machine.call(number, args, Some(limit)).ok()
 }
 
-fn window(offset: u64, length: u64, at: u64) -> [Arg; 3] {
+pub(crate) fn window(offset: u64, length: u64, at: u64) -> [Arg; 3] {
     let place = Arg::Bytes { block: 0, offset };
     [place, Arg::Number(length), Arg::Number(at)]
 }
