@@ -1,0 +1,4 @@
+pub mod Leads
+pub mod Sites
+pub mod Listed
+pub mod Laws
