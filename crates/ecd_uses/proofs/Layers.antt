@@ -1,33 +1,29 @@
 -- The definitions by cases, over the lists of the source.
-use Rattle.std.proofs.Common.{◌≡◌, ℕ, Bool, true, false, ◌||◌, List, [], ◌∷◌, ◌++◌, length, map, Option, Some, None, refl, ap, sym, ◌∙◌, rules}
+use Rattle.std.proofs.Common.{◌≡◌, ℕ, Bool, true, false, ◌||◌, List, ◌∷◌, ◌++◌, length, map, Option, Some, None, refl, ap, sym, ◌∙◌, rules}
 use Rattle.std.specs.Prelude.{flat_map}
 use mathlib.Core.Former.{Count}
-use denote.Hole.Carrier.{hidden, shown}
 use Rattle.ecd_syntax.specs.declared.tree.Alts.{Alts, Alts', Row_of-Type1, end_of-Type1, more_of-Type1, items-the_row-Type1, items_hidden-the_row-Type1-0, out-Alts}
-use Rattle.ecd_syntax.specs.declared.tree.Entry.{Entry, Entry', out-Entry, outs-Entry', is-Entry', at-Entry'}
+use Rattle.ecd_syntax.specs.declared.tree.Entry.{Entry', out-Entry}
 use Rattle.ecd_syntax.specs.declared.tree.Form.{Form, the_lemmas}
 use Rattle.ecd_syntax.specs.declared.tree.Form.TheVariants as f
 use Rattle.ecd_syntax.specs.declared.tree.Form.TheBlock as block
-use Rattle.ecd_syntax.specs.declared.tree.GroupTree.{GroupTree, GroupTree', Row_of-WayTree, end_of-WayTree, more_of-WayTree, items-the_row-WayTree, items_hidden-the_row-WayTree-1, out-GroupTree}
-use Rattle.ecd_syntax.specs.declared.tree.Key.{Key, out-Key}
-use Rattle.ecd_syntax.specs.declared.tree.Key.TheVariants as k
+use Rattle.ecd_syntax.specs.declared.tree.GroupTree.{GroupTree, GroupTree', Row_of-WayTree, end_of-WayTree, more_of-WayTree, items-the_row-WayTree, out-GroupTree}
+use Rattle.ecd_syntax.specs.declared.tree.Key.{Key}
 use Rattle.ecd_lex.specs.declared.token.Bound.{Bound}
 use Rattle.ecd_syntax.specs.declared.tree.Literal.{Literal}
 use Rattle.ecd_syntax.specs.declared.tree.Name.{Name}
 use Rattle.ecd_syntax.specs.declared.tree.Occur.{Occur}
-use Rattle.ecd_syntax.specs.declared.tree.Operation.{Operation, out-Operation}
-use Rattle.ecd_syntax.specs.declared.tree.Type1.{Type1, Type1', Held-Type1-op, None', Some', out-Type1}
-use Rattle.ecd_syntax.specs.declared.tree.Type2.{Type2, out-Type2}
-use Rattle.ecd_syntax.specs.declared.tree.WayTree.{WayTree, WayTree', Row_of-Entry, end_of-Entry, more_of-Entry, items-the_row-Entry, items_hidden-the_row-Entry-2, out-WayTree}
+use Rattle.ecd_syntax.specs.declared.tree.Type1.{Type1, Type1', None', Some', out-Type1}
+use Rattle.ecd_syntax.specs.declared.tree.WayTree.{WayTree, WayTree', Row_of-Entry, end_of-Entry, more_of-Entry, items-the_row-Entry, out-WayTree}
 use Rattle.ecd_uses.specs.declared.site.Lead.{Lead}
 use Rattle.ecd_uses.specs.declared.site.Lead.TheVariants as leads
 use Rattle.ecd_uses.specs.declared.site.Site.{Site}
-use Rattle.ecd_uses.specs.declared.site.Site.TheVariants.{Use, Parenthesis}
-use Rattle.ecd_uses.specs.declared.site.Asked.TheVariants.{Anything, AType, AGroup}
+use Rattle.ecd_uses.specs.declared.site.Site.TheVariants.{Use}
+use Rattle.ecd_uses.specs.declared.site.Asked.TheVariants.{AType, AGroup}
 use Rattle.ecd_syntax.specs.declared.tree.OpKind.{OpKind}
-use Rattle.ecd_uses.specs.Leads.{entry_lead, only_or, group_lead, lead_of, type_lead, choices_leads, choice_lead, form_lead, ways_leads_of, ways_leads, way_leads, entries_leads}
-use Rattle.ecd_uses.specs.Sites.{entry_sites, type_sites, choices_sites, choice_sites, form_sites, group_sites, ways_sites, way_sites, entries_sites, type_asked, are_several, parenthesis, is_keyed, key_sites}
-use Rattle.ecd_uses.specs.Listed.{lead_in, operated_lead, way_listed_leads, operated_sites, choices_listed, entries_listed, way_listed, named_sites}
+use Rattle.ecd_uses.specs.Leads.{entry_lead, only_or, lead_of, type_lead, choices_leads, choice_lead, form_lead, ways_leads, way_leads, entries_leads}
+use Rattle.ecd_uses.specs.Sites.{entry_sites, type_sites, choices_sites, choice_sites, ways_sites, way_sites, entries_sites, type_asked, are_several, is_keyed, key_sites}
+use Rattle.ecd_uses.specs.Listed.{operated_lead, way_listed_leads, operated_sites, choices_listed, entries_listed, way_listed, named_sites}
 use Rattle.ecd_uses.specs.Laws.{EntryLead, TypeLead, ChoiceLead, GroupLead, NamedLead, ParenthesisLead, OtherLeads, EntrySites, KeySites, TypeSites, ChoiceSites, ValueSites, NamedSites, ParenthesisSites, MapSites, ArraySites, UnwrapSites, EnumSites, EnumNameSites, TagSites, HashSites, GroupSites}
 use Rattle.ecd_uses.specs.declared.site.Asked.{Asked}
 

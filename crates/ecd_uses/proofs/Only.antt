@@ -1,5 +1,5 @@
 -- The only element of a list, and the cases of an entry.
-use Rattle.std.proofs.Common.{◌≡◌, ℕ, ◌≢◌, Bool, true, false, List, [], ◌∷◌, length, map, Option, Some, None, Result, IfOk, refl, ap, sym, subst, arith}
+use Rattle.std.proofs.Common.{◌≡◌, ◌≢◌, true, false, List, [], ◌∷◌, length, map, Option, Some, None, Result, IfOk, refl, ap, subst}
 use Rattle.std.specs.Prelude.{is_some}
 use Rattle.ecd_syntax.specs.declared.tree.Key.{Key, Missing, Arrow, Word}
 use Rattle.ecd_syntax.specs.declared.tree.Key.{Lit as AValueKey}

@@ -1,5 +1,5 @@
 -- What decides whether an entry is a type or a group (RFC 8610, sections 2.1 and 2.2).
-use Rattle.std.specs.Prelude.{ℕ, List, [], ◌∷◌, Option, Some, None}
+use Rattle.std.specs.Prelude.{List, [], ◌∷◌, Option, Some, None}
 use Rattle.ecd_syntax.specs.declared.tree.Alts.{Alts, Alts', Row_of-Type1, end_of-Type1, more_of-Type1}
 use Rattle.ecd_syntax.specs.declared.tree.Entry.{Entry, Entry'}
 use Rattle.ecd_syntax.specs.declared.tree.Form.{Form, Named', Paren, MapOf, ArrayOf, Unwrap', Enum, EnumName', Tagged, Hash}
@@ -8,7 +8,7 @@ use Rattle.ecd_syntax.specs.declared.tree.GroupTree.{GroupTree, GroupTree', Row_
 use Rattle.ecd_syntax.specs.declared.tree.Key.{Key, Missing, Arrow, Word}
 use Rattle.ecd_syntax.specs.declared.tree.Key.{Lit as AValueKey}
 use Rattle.ecd_syntax.specs.declared.tree.Occur.{Occur}
-use Rattle.ecd_syntax.specs.declared.tree.Type1.{Type1, Type1', Held-Type1-op, None', Some'}
+use Rattle.ecd_syntax.specs.declared.tree.Type1.{Type1, Type1', None', Some'}
 use Rattle.ecd_syntax.specs.declared.tree.WayTree.{WayTree, WayTree', Row_of-Entry, end_of-Entry, more_of-Entry}
 use Rattle.ecd_uses.specs.declared.site.Lead.{Lead}
 use Rattle.ecd_uses.specs.declared.site.Lead.TheVariants as leads

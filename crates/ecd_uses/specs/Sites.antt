@@ -9,9 +9,8 @@ use Rattle.ecd_syntax.specs.declared.tree.Form.{Lit as AValue}
 use Rattle.ecd_syntax.specs.declared.tree.GroupTree.{GroupTree, GroupTree', Row_of-WayTree, end_of-WayTree, more_of-WayTree}
 use Rattle.ecd_syntax.specs.declared.tree.Key.{Key, Missing, Arrow, Word}
 use Rattle.ecd_syntax.specs.declared.tree.Key.{Lit as AValueKey}
-use Rattle.ecd_syntax.specs.declared.tree.Name.{Name}
 use Rattle.ecd_syntax.specs.declared.tree.Rule.{Rule}
-use Rattle.ecd_syntax.specs.declared.tree.Type1.{Type1, Type1', Held-Type1-op, None', Some'}
+use Rattle.ecd_syntax.specs.declared.tree.Type1.{Type1, Type1', None', Some'}
 use Rattle.ecd_syntax.specs.declared.tree.WayTree.{WayTree, WayTree', Row_of-Entry, end_of-Entry, more_of-Entry}
 use Rattle.ecd_uses.specs.declared.site.Asked.{Asked}
 use Rattle.ecd_uses.specs.declared.site.Asked.TheVariants.{Anything, AType, AGroup}

@@ -1,12 +1,9 @@
-use Rattle.std.proofs.Common.{◌≡◌, ◌++◌, Bool, true, false, ◌||◌, List, [], ◌∷◌, ap, sym, ◌∙◌, refl, arith}
+use Rattle.std.proofs.Common.{◌≡◌, ◌++◌, true, false, ◌||◌, ap, sym, ◌∙◌, refl}
 use Rattle.std.specs.Prelude.{flat_map}
 use Rattle.ecd_syntax.specs.declared.tree.Alts.{out-Alts}
 use Rattle.ecd_syntax.specs.declared.tree.Entry.{out-Entry}
-use Rattle.ecd_syntax.specs.declared.tree.GroupTree.{out-GroupTree}
 use Rattle.ecd_syntax.specs.declared.tree.Type1.{out-Type1}
 use Rattle.ecd_syntax.specs.declared.tree.Type2.{out-Type2}
-use Rattle.ecd_syntax.specs.declared.tree.WayTree.{out-WayTree}
-use Rattle.ecd_uses.specs.declared.site.Site.{Site}
 use Rattle.ecd_uses.specs.declared.site.Asked.TheVariants.{AType, AGroup}
 use Rattle.ecd_uses.specs.Sites.{are_several, is_keyed, type_asked, parenthesis, entry_sites, key_sites, type_sites, choice_sites, form_sites, group_sites}
 use Rattle.ecd_uses.specs.Listed.{lead_in, operated_sites, operand_sites, choices_listed, way_listed, named_sites}

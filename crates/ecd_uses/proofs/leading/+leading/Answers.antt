@@ -1,11 +1,10 @@
-use Rattle.std.proofs.Common.{rules, ◌≡◌, IfOk, ◌≢◌, length, List, [], ◌∷◌, ap, sym, ◌∙◌, arith}
-use Rattle.ecd_uses.specs.declared.site.Lead.{Lead}
+use Rattle.std.proofs.Common.{◌≡◌, ◌≢◌, length, [], ◌∷◌, ap, sym, ◌∙◌}
 use Rattle.ecd_uses.specs.declared.site.Lead.TheVariants as leads
 use Rattle.ecd_syntax.specs.declared.tree.Alts.{out-Alts}
 use Rattle.ecd_syntax.specs.declared.tree.Entry.{out-Entry}
 use Rattle.ecd_syntax.specs.declared.tree.GroupTree.{out-GroupTree}
 use Rattle.ecd_syntax.specs.declared.tree.Type1.{out-Type1}
-use Rattle.ecd_uses.specs.Leads.{only_or, group_lead, lead_of, type_lead, choice_lead, form_lead}
+use Rattle.ecd_uses.specs.Leads.{only_or, group_lead, type_lead, choice_lead, form_lead}
 use Rattle.ecd_uses.specs.Listed.{operated_lead, way_listed_leads}
 use Rattle.ecd_uses.proofs.Layers.{entry-lead, type-lead, choice-lead, group-lead, named-lead, parenthesis-lead, value-lead, map-lead, array-lead, unwrap-lead, enum-lead, enum_name-lead, tag-lead, hash-lead}
 use Rattle.ecd_uses.proofs.Only.{if_ok, only_one, only_none, occurs, keyed, bare}
