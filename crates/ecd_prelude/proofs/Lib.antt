@@ -1,0 +1,3 @@
+pub mod Behind
+pub mod Names
+pub mod Rules

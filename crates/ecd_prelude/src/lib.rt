@@ -1,0 +1,15 @@
+//! The prelude of CDDL (RFC 8610, Appendix D): its rules, and its names of floats, which have none.
+#![tactic(auto)]
+
+mod floats;
+pub mod laws;
+mod parts;
+mod table;
+
+pub use ecd_list::OutOfMemory;
+pub use ecd_syntax::RuleList;
+pub use floats::is_float_name;
+pub use table::prelude;
+
+#[cfg(test)]
+mod tests;
