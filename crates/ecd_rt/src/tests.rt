@@ -1,6 +1,6 @@
 //! The emitted functions, run over bytes, against the reader of heads.
 
-use crate::{comparison, heads};
+use crate::{comparison, heads, utf8_check};
 use ecd_cast::builder::{Builder, Valid};
 use ecd_ceval::{Arg, Block, BlockList, Machine};
 use ecd_head::read_head;
@@ -250,6 +250,53 @@ fn bytes_are_compared_from_the_left(rt: HostRuntime) -> Result<(), Fail> {
         let mut machine = machine(alloc, &valid, bytes)?;
         let length = bytes.len() as u64;
         assert_eq!(rt; compared(&mut machine, *middle, length), Some(*order));
+    }
+    Ok(())
+}
+
+#[test]
+fn text_is_judged_as_std_judges_it(rt: HostRuntime) -> Result<(), Fail> {
+    let rows: [&[u8]; 24] = [
+        b"",
+        b"IETF",
+        &[0x7f],
+        &[0x80],
+        &[0xbf],
+        &[0xc1, 0xbf],
+        &[0xc2, 0x80],
+        &[0xc3, 0xbc],
+        &[0xc3],
+        &[0xc3, 0x28],
+        &[0xe0, 0x9f, 0xbf],
+        &[0xe0, 0xa0, 0x80],
+        &[0xe6, 0xb0, 0xb4],
+        &[0xe6, 0xb0],
+        &[0xed, 0x9f, 0xbf],
+        &[0xed, 0xa0, 0x80],
+        &[0xef, 0xbf, 0xbf, 0x41],
+        &[0xf0, 0x8f, 0xbf, 0xbf],
+        &[0xf0, 0x90, 0x85, 0x91],
+        &[0xf0, 0x90, 0x85],
+        &[0xf4, 0x8f, 0xbf, 0xbf],
+        &[0xf4, 0x90, 0x80, 0x80],
+        &[0xf5, 0x80, 0x80, 0x80],
+        &[0x41, 0xff],
+    ];
+    let alloc = rt.alloc();
+    let mut builder = Builder::new(alloc);
+    utf8_check(alloc, &mut builder)?;
+    let valid = builder.finish();
+    for bytes in rows.iter() {
+        let mut machine = machine(alloc, &valid, bytes)?;
+        let place = Arg::Bytes {
+            block: 0,
+            offset: 0,
+        };
+        let length = bytes.len() as u64;
+        let limit = length.saturating_mul(27).saturating_add(27);
+        let answer = ask(&mut machine, "utf8_valid", &[place, Arg::Number(length)], limit);
+        let is_text = std::str::from_utf8(bytes).is_ok();
+        assert_eq!(rt; answer, Some(is_text as u64));
     }
     Ok(())
 }
