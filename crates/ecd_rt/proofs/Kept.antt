@@ -15,8 +15,10 @@ use Rattle.ecd_rt.specs.Firsts.{size_from, least_from}
 use Rattle.ecd_rt.specs.Meanings.{LoadsNumber, OfFirst, HeadArgument, HeadEnd, HeadWithin}
 use Rattle.ecd_rt.specs.Compare.{compare_bytes, ComparesBytes}
 use Rattle.ecd_rt.specs.Utf8.{utf8_valid, ChecksUtf8}
+use Rattle.ecd_rt.specs.HeadWriter.{head_length, put_head, HeadLength, WritesHead}
+use Rattle.ecd_rt.specs.Copier.{copy_bytes, CopiesBytes}
 use Rattle.ecd_rt.specs.Heads.{head_names, load_be16, load_be32, load_be64, head_size, head_least, head_argument, head_end, head_within}
-use Rattle.ecd_rt.specs.Standing.{AreNew, IsAmong, HeadsAreThere, HeadsMean, HeadsAreKept, ComparisonIsKept, Utf8IsKept}
+use Rattle.ecd_rt.specs.Standing.{AreNew, IsAmong, HeadsAreThere, HeadsMean, HeadsAreKept, ComparisonIsKept, Utf8IsKept, HeadWriterIsKept, CopierIsKept}
 
 -- ---- what a function does
 
@@ -73,3 +75,15 @@ comparison_is_kept = record { there = among_kept compare_bytes; mean = λ items 
 
 pub utf8_is_kept : Utf8IsKept
 utf8_is_kept = record { there = among_kept utf8_valid; mean = λ items more new h. callee_kept ChecksUtf8 items more (codes "utf8_valid") new h }
+
+pub head_writer_is_kept : HeadWriterIsKept
+head_writer_is_kept = record {
+  there = λ items more h. record { length = among_kept head_length items more h.length; head = among_kept put_head items more h.head };
+  mean = λ items more new h. record {
+    length = callee_kept HeadLength items more (codes "head_length") new.0 h.length;
+    head = callee_kept WritesHead items more (codes "put_head") new.1.1.1.1.0 h.head;
+  };
+}
+
+pub copier_is_kept : CopierIsKept
+copier_is_kept = record { there = among_kept copy_bytes; mean = λ items more new h. callee_kept CopiesBytes items more (codes "copy_bytes") new h }

@@ -16,3 +16,6 @@ pub mod Within
 pub mod Meeting
 pub mod Extending
 pub mod Extended
+pub mod Writing
+pub mod HeadWriting
+pub mod Copying

@@ -10,3 +10,6 @@ pub mod Utf8
 pub mod Framed
 pub mod Extents
 pub mod ExtentsStanding
+pub mod Writes
+pub mod HeadWriter
+pub mod Copier

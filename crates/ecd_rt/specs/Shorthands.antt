@@ -8,7 +8,7 @@ use Rattle.ecd_cast.specs.declared.tree.Source.TheVariants.{Value as FromValue, 
 use Rattle.ecd_cast.specs.declared.tree.Stmt.{Stmt}
 use Rattle.ecd_cast.specs.declared.tree.Stmt.TheVariants.{Number as DeclNumber, If, Return}
 use Rattle.ecd_cast.specs.declared.tree.Param.{Param}
-use Rattle.ecd_cast.specs.declared.tree.ParamKind.TheVariants.{Number as NumberParam, ReadPointer as ReadPointerParam}
+use Rattle.ecd_cast.specs.declared.tree.ParamKind.TheVariants.{Number as NumberParam, ReadPointer as ReadPointerParam, WritePointer as WritePointerParam}
 use Rattle.ecd_cast.specs.Memory.{Name}
 
 -- `uint64_t x`
@@ -18,6 +18,10 @@ number x = record { name = x; kind = NumberParam }
 -- `const uint8_t *x`
 abbrev pub pointer : Name → Param
 pointer x = record { name = x; kind = ReadPointerParam }
+
+-- `uint8_t *x`
+abbrev pub output : Name → Param
+output x = record { name = x; kind = WritePointerParam }
 
 -- `(x + n)`
 abbrev pub plus : Name → ℕ → Expr

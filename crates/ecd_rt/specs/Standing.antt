@@ -13,6 +13,8 @@ use Rattle.ecd_rt.specs.Firsts.{size_from, least_from}
 use Rattle.ecd_rt.specs.Meanings.{LoadsNumber, OfFirst, HeadArgument, HeadEnd, HeadWithin, HeadStands, end_within}
 use Rattle.ecd_rt.specs.Compare.{compare_bytes, ComparesBytes}
 use Rattle.ecd_rt.specs.Utf8.{utf8_valid, ChecksUtf8}
+use Rattle.ecd_rt.specs.HeadWriter.{put_names, head_length, put_head, HeadLength, WritesHead}
+use Rattle.ecd_rt.specs.Copier.{copy_bytes, CopiesBytes}
 use Rattle.ecd_rt.specs.Heads.{head_names, load_be16, load_be32, load_be64, head_size, head_least, head_argument, head_end, head_within}
 
 -- no function of these items has one of the names
@@ -46,6 +48,16 @@ pub record HeadsMean (items : List CItem) : Type 0 where
   pub end : HeadEnd (calls_of items (codes "head_end"))
   pub within : HeadWithin (calls_of items (codes "head_within"))
 
+-- what writes heads is there
+pub record HeadWriterIsThere (items : List CItem) : Type 0 where
+  pub length : IsAmong head_length items
+  pub head : IsAmong put_head items
+
+-- and means what it is to mean
+pub record HeadWriterMeans (items : List CItem) : Type 0 where
+  pub length : HeadLength (calls_of items (codes "head_length"))
+  pub head : WritesHead (calls_of items (codes "put_head"))
+
 -- ---- laws
 
 -- whatever is appended under other names changes nothing of them
@@ -66,3 +78,13 @@ pub record ComparisonIsKept : Type 0 where
 pub record Utf8IsKept : Type 0 where
   pub there : (items more : List CItem) → IsAmong utf8_valid items → IsAmong utf8_valid (items ++ more)
   pub mean : (items more : List CItem) → IsNew (codes "utf8_valid") more → ChecksUtf8 (calls_of items (codes "utf8_valid")) → ChecksUtf8 (calls_of (items ++ more) (codes "utf8_valid"))
+
+-- and nothing of the functions that write heads
+pub record HeadWriterIsKept : Type 0 where
+  pub there : (items more : List CItem) → HeadWriterIsThere items → HeadWriterIsThere (items ++ more)
+  pub mean : (items more : List CItem) → AreNew put_names more → HeadWriterMeans items → HeadWriterMeans (items ++ more)
+
+-- and nothing of the function that copies bytes
+pub record CopierIsKept : Type 0 where
+  pub there : (items more : List CItem) → IsAmong copy_bytes items → IsAmong copy_bytes (items ++ more)
+  pub mean : (items more : List CItem) → IsNew (codes "copy_bytes") more → CopiesBytes (calls_of items (codes "copy_bytes")) → CopiesBytes (calls_of (items ++ more) (codes "copy_bytes"))

@@ -95,3 +95,32 @@ state = codes "state"
 
 abbrev pub begun : Name
 begun = codes "begun"
+
+-- where bytes are written to, the number that is written, and the places behind its first half and behind all of it
+abbrev pub out : Name
+out = codes "out"
+
+abbrev pub number : Name
+number = codes "number"
+
+abbrev pub middle : Name
+middle = codes "middle"
+
+abbrev pub end16 : Name
+end16 = codes "end16"
+
+abbrev pub end32 : Name
+end32 = codes "end32"
+
+abbrev pub end64 : Name
+end64 = codes "end64"
+
+-- where bytes are copied from, how many, and one of them
+abbrev pub from : Name
+from = codes "from"
+
+abbrev pub count : Name
+count = codes "count"
+
+abbrev pub i : Name
+i = codes "i"

@@ -2,7 +2,8 @@
 
 ghost use Rattle.ecd_rt.specs.ExtentsStanding.{ExtentsAreKept};
 ghost use Rattle.ecd_rt.specs.Framed.{FramedEndOnce, ValidIsFramed};
-ghost use Rattle.ecd_rt.specs.Standing.{ComparisonIsKept, HeadsAreKept, HeadsEnd, Utf8IsKept};
+ghost use Rattle.ecd_rt.specs.Standing.{ComparisonIsKept, CopierIsKept, HeadWriterIsKept, HeadsAreKept, HeadsEnd, Utf8IsKept};
+ghost use Rattle.ecd_rt.specs.Writes.{PutsAreWritten};
 
 /// What is put behind the functions over heads, under other names, changes nothing of them.
 pub fn heads_are_kept()
@@ -33,4 +34,19 @@ pub fn framed_items()
 /// What is put behind the functions that find the end of an item, under other names, changes nothing of them.
 pub fn extents_are_kept()
     ensures { ExtentsAreKept }
+{}
+
+/// What is put behind the functions that write heads, under other names, changes nothing of them.
+pub fn head_writer_is_kept()
+    ensures { HeadWriterIsKept }
+{}
+
+/// What is put behind the function that copies bytes, under other names, changes nothing of it.
+pub fn copier_is_kept()
+    ensures { CopierIsKept }
+{}
+
+/// Behind writes of bytes, one behind the other, the block holds its old bytes with these in them, and no other block is changed.
+pub fn puts_are_written()
+    ensures { PutsAreWritten }
 {}

@@ -6,6 +6,7 @@ ghost use Rattle.ecd_rt.specs.Heads.{head_functions, head_names};
 ghost use Rattle.ecd_rt.specs.Standing.{AreNew, HeadsAreThere, HeadsMean};
 
 mod compare;
+mod copy;
 mod extent;
 #[cfg(test)]
 mod extent_tests;
@@ -17,17 +18,20 @@ mod shorthands;
 mod tests;
 mod utf8;
 mod whole_heads;
+mod write_head;
 
 use crate::firsts::{head_least, head_size};
 use crate::loads::{load_be16, load_be32, load_be64};
 use crate::whole_heads::{head_argument, head_end, head_within};
 pub use compare::comparison;
+pub use copy::copier;
 use ecd_cast::builder::Builder;
 use ecd_cast::tree::CItem;
 use ecd_list::OutOfMemory;
 pub use extent::extents;
 use std::alloc::Global;
 pub use utf8::utf8_check;
+pub use write_head::head_writer;
 
 /// Puts the functions over heads behind the builder's items: `load_be16`, `load_be32`, `load_be64`, `head_size`,
 /// `head_least`, `head_argument`, `head_end` and `head_within`. None of these names is taken before.

@@ -1,8 +1,9 @@
 //! Statements and parameters from their parts.
 
 ghost use Rattle.std.specs.Prelude.{◌≡◌, [], ◌∷◌, IfOk};
-ghost use Rattle.ecd_cast.specs.declared.tree.Stmt.TheVariants.{Return as AReturn};
-ghost use Rattle.ecd_cast.specs.declared.tree.Expr.TheVariants.{Var as AVar};
+ghost use Rattle.ecd_cast.specs.declared.tree.Op.TheVariants.{Add as AnAdd};
+ghost use Rattle.ecd_cast.specs.declared.tree.Stmt.TheVariants.{Return as AReturn, Store as AStore};
+ghost use Rattle.ecd_cast.specs.declared.tree.Expr.TheVariants.{Var as AVar, Binary as ABinary};
 ghost use Rattle.ecd_rt.specs.Shorthands as spec;
 ghost use Rattle.ecd_rt.specs.Variables as v;
 ghost use Rattle.ecd_rt.specs.Heads as trees;
@@ -76,6 +77,25 @@ pub(crate) fn plus(alloc: Global, text: &[u8], number: u64) -> Result<Expr, OutO
     binary(alloc, Op::Add, var(alloc, text)?, Expr::Number(number))
 }
 
+/// `(left + right)`
+pub(crate) fn sum(alloc: Global, left: &[u8], right: &[u8]) -> Result<Expr, OutOfMemory>
+    ensures { IfOk result (λ e. e ≡ ABinary AnAdd (AVar left.now) (AVar right.now)) }
+{
+    let left = var(alloc, left)?;
+    binary(alloc, Op::Add, left, var(alloc, right)?)
+}
+
+/// `out[index] = (uint8_t)from;`
+pub(crate) fn put(alloc: Global, index: Expr, from: Expr) -> Result<Stmt, OutOfMemory>
+    ensures { IfOk result (λ s. s ≡ AStore v.out index from) }
+{
+    Ok(Stmt::Store {
+        name: name(alloc, b"out")?,
+        index,
+        from,
+    })
+}
+
 /// `(uint64_t)buf[at]`
 pub(crate) fn byte_here(alloc: Global) -> Result<Expr, OutOfMemory>
     ensures { IfOk result (λ e. e ≡ trees.byte_here) }
@@ -118,6 +138,16 @@ pub(crate) fn pointer(alloc: Global, text: &[u8]) -> Result<Param, OutOfMemory>
     Ok(Param {
         name: name(alloc, text)?,
         kind: ParamKind::ReadPointer,
+    })
+}
+
+/// `uint8_t *text`
+pub(crate) fn output(alloc: Global, text: &[u8]) -> Result<Param, OutOfMemory>
+    ensures { IfOk result (λ p. p ≡ spec.output text.now) }
+{
+    Ok(Param {
+        name: name(alloc, text)?,
+        kind: ParamKind::WritePointer,
     })
 }
 

@@ -1,10 +1,10 @@
 //! The emitted functions, run over bytes, against the reader of heads.
 
-use crate::{comparison, heads, utf8_check};
+use crate::{comparison, copier, head_writer, heads, utf8_check};
 use ecd_cast::builder::{Builder, Valid};
 use ecd_ceval::{Arg, Block, BlockList, Machine};
 use ecd_head::read_head;
-use ecd_list::OutOfMemory;
+use ecd_list::{ByteList, OutOfMemory};
 use std::alloc::Global;
 use std::test::Fail;
 
@@ -294,9 +294,157 @@ fn text_is_judged_as_std_judges_it(rt: HostRuntime) -> Result<(), Fail> {
         };
         let length = bytes.len() as u64;
         let limit = length.saturating_mul(27).saturating_add(27);
-        let answer = ask(&mut machine, "utf8_valid", &[place, Arg::Number(length)], limit);
+        let answer = ask(
+            &mut machine,
+            "utf8_valid",
+            &[place, Arg::Number(length)],
+            limit,
+        );
         let is_text = std::str::from_utf8(bytes).is_ok();
         assert_eq!(rt; answer, Some(is_text as u64));
+    }
+    Ok(())
+}
+
+/// A program of the functions that write, and the comparison.
+#[tactic(auto, unfolding(crate::specs::Compare::compare_bytes, crate::specs::HeadWriter::head_length, crate::specs::HeadWriter::store_be16, crate::specs::HeadWriter::store_be32, crate::specs::HeadWriter::store_be64, crate::specs::HeadWriter::put_head))]
+fn writers(alloc: Global) -> Result<Valid, OutOfMemory> {
+    let mut builder = Builder::new(alloc);
+    comparison(alloc, &mut builder)?;
+    head_writer(alloc, &mut builder)?;
+    copier(alloc, &mut builder)?;
+    Ok(builder.finish())
+}
+
+/// Block 0 is a source, block 1 an output of twelve bytes, and block 2 what the output is to be.
+fn writing<'a>(
+    alloc: Global,
+    program: &'a Valid,
+    source: &'a [u8],
+    wanted: &'a [u8],
+) -> Result<Machine<'a>, OutOfMemory> {
+    let old = b"\xff\xff\xff\xff\xff\xff\xff\xff\xff\xff\xff\xff";
+    let mut blocks = BlockList::new(alloc);
+    blocks.push(Block::Fixed(source))?;
+    blocks.push(Block::Output(ByteList::from_slice(alloc, old)?))?;
+    blocks.push(Block::Fixed(wanted))?;
+    Machine::prepare(alloc, program, blocks)
+}
+
+/// `compare_bytes` of the whole output and what it is to be.
+fn output_order<'a>(machine: &mut Machine<'a>) -> Option<u64> {
+    let output = Arg::Bytes {
+        block: 1,
+        offset: 0,
+    };
+    let wanted = Arg::Bytes {
+        block: 2,
+        offset: 0,
+    };
+    let args = [output, Arg::Number(12), wanted, Arg::Number(12)];
+    ask(machine, "compare_bytes", &args, 91)
+}
+
+#[test]
+fn heads_are_written_in_their_shortest_form(rt: HostRuntime) -> Result<(), Fail> {
+    let rows: [(u64, u64, u64, &[u8]); 10] = [
+        (0, 0, 1, b"\xff\xff\xff\x00\xff\xff\xff\xff\xff\xff\xff\xff"),
+        (
+            1,
+            23,
+            1,
+            b"\xff\xff\xff\x37\xff\xff\xff\xff\xff\xff\xff\xff",
+        ),
+        (
+            2,
+            24,
+            2,
+            b"\xff\xff\xff\x58\x18\xff\xff\xff\xff\xff\xff\xff",
+        ),
+        (
+            3,
+            255,
+            2,
+            b"\xff\xff\xff\x78\xff\xff\xff\xff\xff\xff\xff\xff",
+        ),
+        (
+            4,
+            256,
+            3,
+            b"\xff\xff\xff\x99\x01\x00\xff\xff\xff\xff\xff\xff",
+        ),
+        (
+            5,
+            65535,
+            3,
+            b"\xff\xff\xff\xb9\xff\xff\xff\xff\xff\xff\xff\xff",
+        ),
+        (
+            6,
+            65536,
+            5,
+            b"\xff\xff\xff\xda\x00\x01\x00\x00\xff\xff\xff\xff",
+        ),
+        (
+            0,
+            1000000,
+            5,
+            b"\xff\xff\xff\x1a\x00\x0f\x42\x40\xff\xff\xff\xff",
+        ),
+        (
+            0,
+            1000000000000,
+            9,
+            b"\xff\xff\xff\x1b\x00\x00\x00\xe8\xd4\xa5\x10\x00",
+        ),
+        (
+            7,
+            32,
+            2,
+            b"\xff\xff\xff\xf8\x20\xff\xff\xff\xff\xff\xff\xff",
+        ),
+    ];
+    let alloc = rt.alloc();
+    let valid = writers(alloc)?;
+    for (major, argument, length, wanted) in rows.iter() {
+        let mut machine = writing(alloc, &valid, &[], wanted)?;
+        let arg = Arg::Number(*argument);
+        assert_eq!(rt; ask(&mut machine, "head_length", &[arg], 9), Some(*length));
+        let out = Arg::Bytes {
+            block: 1,
+            offset: 1,
+        };
+        let args = [out, Arg::Number(2), Arg::Number(*major), arg];
+        let end = length.checked_add(2);
+        assert_eq!(rt; ask(&mut machine, "put_head", &args, 29), end);
+        assert_eq!(rt; output_order(&mut machine), Some(1));
+    }
+    Ok(())
+}
+
+#[test]
+fn bytes_are_copied_and_the_rest_stays(rt: HostRuntime) -> Result<(), Fail> {
+    let rows: [(u64, &[u8]); 3] = [
+        (0, b"\xff\xff\xff\xff\xff\xff\xff\xff\xff\xff\xff\xff"),
+        (1, b"\xff\xff\xff\x02\xff\xff\xff\xff\xff\xff\xff\xff"),
+        (3, b"\xff\xff\xff\x02\x03\x04\xff\xff\xff\xff\xff\xff"),
+    ];
+    let alloc = rt.alloc();
+    let valid = writers(alloc)?;
+    for (count, wanted) in rows.iter() {
+        let mut machine = writing(alloc, &valid, &[1, 2, 3, 4], wanted)?;
+        let out = Arg::Bytes {
+            block: 1,
+            offset: 1,
+        };
+        let from = Arg::Bytes {
+            block: 0,
+            offset: 1,
+        };
+        let args = [out, Arg::Number(2), from, Arg::Number(*count)];
+        let end = count.checked_add(2);
+        assert_eq!(rt; ask(&mut machine, "copy_bytes", &args, 8), end);
+        assert_eq!(rt; output_order(&mut machine), Some(1));
     }
     Ok(())
 }
