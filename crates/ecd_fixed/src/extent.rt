@@ -1,0 +1,218 @@
+//! The functions that find the end of an item.
+
+ghost use Rattle.std.specs.Prelude.{◌≡◌, [], ◌∷◌, ◌++◌, IfOk, OnOk};
+ghost use Rattle.ecd_cast.specs.declared.tree.Op.TheVariants.{Lt, Gt, Eq, Sub};
+ghost use Rattle.ecd_cast.specs.declared.tree.Expr.TheVariants.{Number as ANumber, Var as AVar};
+ghost use Rattle.ecd_fixed.specs.Shorthands as spec;
+ghost use Rattle.ecd_fixed.specs.Variables as v;
+ghost use Rattle.ecd_fixed.specs.Heads as heads;
+ghost use Rattle.ecd_fixed.specs.Extents as trees;
+ghost use Rattle.ecd_fixed.specs.Extents.{extent_functions, extent_names};
+ghost use Rattle.ecd_fixed.specs.Standing.{AreNew, HeadsAreThere, HeadsMean};
+ghost use Rattle.ecd_fixed.specs.ExtentsStanding.{ExtentsAreThere, ExtentsMean};
+
+use crate::shorthands::{
+    byte_here, function, guard, let_call, let_number, none_where, place_args, place_params,
+    window_params,
+};
+use ecd_cast::build::{binary, give, name, one, var};
+use ecd_cast::builder::Builder;
+use ecd_cast::tree::{CItem, Expr, ExprList, Function, Op, Source, Stmt, StmtList};
+use ecd_list::OutOfMemory;
+use std::alloc::Global;
+
+/// `uint64_t major = ((uint64_t)buf[at] >> 5ull);`
+fn let_major(alloc: Global) -> Result<Stmt, OutOfMemory>
+    ensures { IfOk result (λ s. s ≡ trees.let_major) }
+{
+    let high = binary(alloc, Op::Shr, byte_here(alloc)?, Expr::Number(5))?;
+    let_number(alloc, b"major", high)
+}
+
+/// `(left op right)` of two variables
+fn of_two(alloc: Global, op: Op, left: &[u8], right: &[u8]) -> Result<Expr, OutOfMemory>
+    ensures { IfOk result (λ e. e ≡ trees.of_two op left.now right.now) }
+{
+    binary(alloc, op, var(alloc, left)?, var(alloc, right)?)
+}
+
+/// `if (text op number) { return answer; } else { }`
+fn where_number(
+    alloc: Global,
+    op: Op,
+    text: &[u8],
+    number: u64,
+    answer: Expr,
+) -> Result<Stmt, OutOfMemory>
+    ensures { IfOk result (λ s. s ≡ spec.guard op (AVar text.now) (ANumber number) answer) }
+{
+    let left = var(alloc, text)?;
+    guard(alloc, op, left, Expr::Number(number), answer)
+}
+
+/// `if ((len - end) < text) { return 0ull; } else { }`
+fn none_where_short(alloc: Global, text: &[u8]) -> Result<Stmt, OutOfMemory>
+    ensures { IfOk result (λ s. s ≡ heads.none_where Lt (trees.of_two Sub v.len v.end) (AVar text.now)) }
+{
+    let left = of_two(alloc, Op::Sub, b"len", b"end")?;
+    none_where(alloc, Op::Lt, left, var(alloc, text)?)
+}
+
+/// `(buf, len, text)`
+fn window_args(alloc: Global, text: &[u8]) -> Result<ExprList, OutOfMemory>
+    ensures { IfOk result (λ es. es ≡ AVar v.buf ∷ AVar v.len ∷ AVar text.now ∷ []) }
+{
+    let mut args = one(alloc, var(alloc, b"buf")?)?;
+    args.push(var(alloc, b"len")?)?;
+    args.push(var(alloc, text)?)?;
+    Ok(args)
+}
+
+/// `uint64_t argument = head_argument(buf, at);`
+fn let_argument(alloc: Global) -> Result<Stmt, OutOfMemory>
+    ensures { IfOk result (λ s. s ≡ trees.let_argument) }
+{
+    let_call(alloc, b"argument", b"head_argument", place_args(alloc)?)
+}
+
+/// The head: its end, and its major type.
+fn own_head(alloc: Global) -> Result<StmtList, OutOfMemory>
+    ensures { IfOk result (λ b. b ≡ trees.own_head) }
+{
+    let args = window_args(alloc, b"at")?;
+    let mut body = one(alloc, let_call(alloc, b"end", b"head_end", args)?)?;
+    body.push(where_number(alloc, Op::Eq, b"end", 0, Expr::Number(0))?)?;
+    body.push(let_major(alloc)?)?;
+    body.push(where_number(alloc, Op::Lt, b"major", 2, var(alloc, b"end")?)?)?;
+    body.push(where_number(alloc, Op::Gt, b"major", 5, var(alloc, b"end")?)?)?;
+    Ok(body)
+}
+
+fn own_body(alloc: Global) -> Result<StmtList, OutOfMemory>
+    ensures { IfOk result (λ b. b ≡ trees.own_body) }
+{
+    let mut body = own_head(alloc)?;
+    body.push(let_argument(alloc)?)?;
+    body.push(none_where_short(alloc, b"argument")?)?;
+    body.push(where_number(alloc, Op::Gt, b"major", 3, var(alloc, b"end")?)?)?;
+    body.push(Stmt::Return(of_two(alloc, Op::Add, b"end", b"argument")?))?;
+    Ok(body)
+}
+
+/// The place behind the head and the string of the item at a place.
+#[tactic(auto, unfolding(crate::specs::Extents::own_end))]
+fn own_end(alloc: Global) -> Result<Function, OutOfMemory>
+    ensures { IfOk result (λ f. f ≡ trees.own_end) }
+{
+    function(alloc, b"own_end", window_params(alloc)?, own_body(alloc)?)
+}
+
+fn inside_body(alloc: Global) -> Result<StmtList, OutOfMemory>
+    ensures { IfOk result (λ b. b ≡ trees.inside_body) }
+{
+    let mut body = one(alloc, let_major(alloc)?)?;
+    body.push(where_number(alloc, Op::Lt, b"major", 4, Expr::Number(0))?)?;
+    body.push(where_number(alloc, Op::Gt, b"major", 6, Expr::Number(0))?)?;
+    body.push(where_number(alloc, Op::Eq, b"major", 6, Expr::Number(1))?)?;
+    body.push(let_argument(alloc)?)?;
+    body.push(where_number(alloc, Op::Eq, b"major", 4, var(alloc, b"argument")?)?)?;
+    body.push(Stmt::Return(of_two(alloc, Op::Add, b"argument", b"argument")?))?;
+    Ok(body)
+}
+
+/// How many items stand directly inside the item at a place.
+#[tactic(auto, unfolding(crate::specs::Extents::items_inside))]
+fn items_inside(alloc: Global) -> Result<Function, OutOfMemory>
+    ensures { IfOk result (λ f. f ≡ trees.items_inside) }
+{
+    function(
+        alloc,
+        b"items_inside",
+        place_params(alloc)?,
+        inside_body(alloc)?,
+    )
+}
+
+/// `text = from;`
+fn assign(alloc: Global, text: &[u8], from: Expr) -> Result<Stmt, OutOfMemory>
+    ensures { IfOk result (λ s. s ≡ trees.assign text.now from) }
+{
+    Ok(Stmt::Assign {
+        name: name(alloc, text)?,
+        from: Source::Value(from),
+    })
+}
+
+/// `owed = ((owed - 1ull) + inside);`
+fn owe_inside(alloc: Global) -> Result<Stmt, OutOfMemory>
+    ensures { IfOk result (λ s. s ≡ trees.owe_inside) }
+{
+    let others = binary(alloc, Op::Sub, var(alloc, b"owed")?, Expr::Number(1))?;
+    let owed = binary(alloc, Op::Add, others, var(alloc, b"inside")?)?;
+    assign(alloc, b"owed", owed)
+}
+
+/// `uint64_t inside = items_inside(buf, end);`
+fn let_inside(alloc: Global) -> Result<Stmt, OutOfMemory>
+    ensures { IfOk result (λ s. s ≡ trees.let_inside) }
+{
+    let mut args = one(alloc, var(alloc, b"buf")?)?;
+    args.push(var(alloc, b"end")?)?;
+    let_call(alloc, b"inside", b"items_inside", args)
+}
+
+fn turn(alloc: Global) -> Result<StmtList, OutOfMemory>
+    ensures { IfOk result (λ b. b ≡ trees.item_turn) }
+{
+    let args = window_args(alloc, b"end")?;
+    let mut body = one(alloc, let_call(alloc, b"next", b"own_end", args)?)?;
+    body.push(where_number(alloc, Op::Eq, b"next", 0, Expr::Number(0))?)?;
+    body.push(let_inside(alloc)?)?;
+    body.push(owe_inside(alloc)?)?;
+    body.push(assign(alloc, b"end", var(alloc, b"next")?)?)?;
+    body.push(where_number(alloc, Op::Eq, b"owed", 0, var(alloc, b"end")?)?)?;
+    body.push(none_where_short(alloc, b"owed")?)?;
+    Ok(body)
+}
+
+fn item_body(alloc: Global) -> Result<StmtList, OutOfMemory>
+    ensures { IfOk result (λ b. b ≡ trees.item_body) }
+{
+    let mut body = one(alloc, let_number(alloc, b"end", var(alloc, b"at")?)?)?;
+    body.push(let_number(alloc, b"owed", Expr::Number(1))?)?;
+    body.push(Stmt::For {
+        name: name(alloc, b"turn")?,
+        bound: name(alloc, b"len")?,
+        body: turn(alloc)?,
+    })?;
+    body.push(give(0))?;
+    Ok(body)
+}
+
+/// The place behind the item at a place.
+#[tactic(auto, unfolding(crate::specs::Extents::item_end))]
+fn item_end(alloc: Global) -> Result<Function, OutOfMemory>
+    ensures { IfOk result (λ f. f ≡ trees.item_end) }
+{
+    function(alloc, b"item_end", window_params(alloc)?, item_body(alloc)?)
+}
+
+/// Puts the functions that find the end of an item behind the builder's items, among which those over heads are:
+/// `own_end`, `items_inside` and `item_end`. None of these names is taken before.
+///
+/// # Errors
+///
+/// `OutOfMemory` where memory is wanting. The builder may only be dropped then.
+pub fn extents(alloc: Global, builder: &mut Builder) -> Result<(), OutOfMemory>
+    requires there { HeadsAreThere builder.old }
+    requires mean { HeadsMean builder.old }
+    requires new { AreNew extent_names builder.old }
+    ensures items { OnOk result (builder.new ≡ builder.old ++ extent_functions) }
+    ensures there { OnOk result (ExtentsAreThere builder.new) }
+    ensures mean { OnOk result (ExtentsMean builder.new) }
+{
+    builder.push(CItem::Function(own_end(alloc)?))?;
+    builder.push(CItem::Function(items_inside(alloc)?))?;
+    builder.push(CItem::Function(item_end(alloc)?))?;
+    Ok(())
+}

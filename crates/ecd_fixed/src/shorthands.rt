@@ -1,0 +1,187 @@
+//! Statements and parameters from their parts.
+
+ghost use Rattle.std.specs.Prelude.{◌≡◌, [], ◌∷◌, IfOk};
+ghost use Rattle.ecd_cast.specs.declared.tree.Op.TheVariants.{Add as AnAdd};
+ghost use Rattle.ecd_cast.specs.declared.tree.Stmt.TheVariants.{Return as AReturn, Store as AStore};
+ghost use Rattle.ecd_cast.specs.declared.tree.Expr.TheVariants.{Var as AVar, Binary as ABinary};
+ghost use Rattle.ecd_fixed.specs.Shorthands as spec;
+ghost use Rattle.ecd_fixed.specs.Variables as v;
+ghost use Rattle.ecd_fixed.specs.Heads as trees;
+
+use ecd_cast::build::{binary, declare_call, load, name, one, var, when};
+use ecd_cast::tree::{
+    Expr, ExprList, Function, Op, Param, ParamKind, ParamList, Source, Stmt, StmtList,
+};
+use ecd_list::OutOfMemory;
+use std::alloc::Global;
+
+/// `if (left op right) { return answer; } else { }`
+pub(crate) fn guard(
+    alloc: Global,
+    op: Op,
+    left: Expr,
+    right: Expr,
+    answer: Expr,
+) -> Result<Stmt, OutOfMemory>
+    ensures { IfOk result (λ s. s ≡ spec.guard op left right answer) }
+{
+    let test = binary(alloc, op, left, right)?;
+    Ok(when(alloc, test, one(alloc, Stmt::Return(answer))?))
+}
+
+/// `if (left op right) { return 0ull; } else { }`
+pub(crate) fn none_where(
+    alloc: Global,
+    op: Op,
+    left: Expr,
+    right: Expr,
+) -> Result<Stmt, OutOfMemory>
+    ensures { IfOk result (λ s. s ≡ trees.none_where op left right) }
+{
+    guard(alloc, op, left, right, Expr::Number(0))
+}
+
+/// `uint64_t text = from;`
+pub(crate) fn let_number(alloc: Global, text: &[u8], from: Expr) -> Result<Stmt, OutOfMemory>
+    ensures { IfOk result (λ s. s ≡ spec.let_number text.now from) }
+{
+    Ok(Stmt::Number {
+        name: name(alloc, text)?,
+        from: Source::Value(from),
+    })
+}
+
+/// `uint64_t text = function(args);`
+pub(crate) fn let_call(
+    alloc: Global,
+    text: &[u8],
+    function: &[u8],
+    args: ExprList,
+) -> Result<Stmt, OutOfMemory>
+    ensures { IfOk result (λ s. s ≡ spec.let_call text.now function.now args) }
+{
+    declare_call(alloc, text, name(alloc, function)?, args)
+}
+
+/// `return text;`
+pub(crate) fn give_variable(alloc: Global, text: &[u8]) -> Result<Stmt, OutOfMemory>
+    ensures { IfOk result (λ s. s ≡ AReturn (AVar text.now)) }
+{
+    Ok(Stmt::Return(var(alloc, text)?))
+}
+
+/// `(text + number)`
+pub(crate) fn plus(alloc: Global, text: &[u8], number: u64) -> Result<Expr, OutOfMemory>
+    ensures { IfOk result (λ e. e ≡ spec.plus text.now number) }
+{
+    binary(alloc, Op::Add, var(alloc, text)?, Expr::Number(number))
+}
+
+/// `(left + right)`
+pub(crate) fn sum(alloc: Global, left: &[u8], right: &[u8]) -> Result<Expr, OutOfMemory>
+    ensures { IfOk result (λ e. e ≡ ABinary AnAdd (AVar left.now) (AVar right.now)) }
+{
+    let left = var(alloc, left)?;
+    binary(alloc, Op::Add, left, var(alloc, right)?)
+}
+
+/// `out[index] = (uint8_t)from;`
+pub(crate) fn put(alloc: Global, index: Expr, from: Expr) -> Result<Stmt, OutOfMemory>
+    ensures { IfOk result (λ s. s ≡ AStore v.out index from) }
+{
+    Ok(Stmt::Store {
+        name: name(alloc, b"out")?,
+        index,
+        from,
+    })
+}
+
+/// `(uint64_t)buf[at]`
+pub(crate) fn byte_here(alloc: Global) -> Result<Expr, OutOfMemory>
+    ensures { IfOk result (λ e. e ≡ trees.byte_here) }
+{
+    load(alloc, b"buf", var(alloc, b"at")?)
+}
+
+/// `(buf, at)`
+pub(crate) fn place_args(alloc: Global) -> Result<ExprList, OutOfMemory>
+    ensures { IfOk result (λ es. es ≡ AVar v.buf ∷ AVar v.at ∷ []) }
+{
+    let mut args = one(alloc, var(alloc, b"buf")?)?;
+    args.push(var(alloc, b"at")?)?;
+    Ok(args)
+}
+
+/// `(buf, (at + number))`
+pub(crate) fn later_args(alloc: Global, number: u64) -> Result<ExprList, OutOfMemory>
+    ensures { IfOk result (λ es. es ≡ AVar v.buf ∷ spec.plus v.at number ∷ []) }
+{
+    let mut args = one(alloc, var(alloc, b"buf")?)?;
+    args.push(plus(alloc, b"at", number)?)?;
+    Ok(args)
+}
+
+/// `uint64_t text`
+pub(crate) fn number(alloc: Global, text: &[u8]) -> Result<Param, OutOfMemory>
+    ensures { IfOk result (λ p. p ≡ spec.number text.now) }
+{
+    Ok(Param {
+        name: name(alloc, text)?,
+        kind: ParamKind::Number,
+    })
+}
+
+/// `const uint8_t *text`
+pub(crate) fn pointer(alloc: Global, text: &[u8]) -> Result<Param, OutOfMemory>
+    ensures { IfOk result (λ p. p ≡ spec.pointer text.now) }
+{
+    Ok(Param {
+        name: name(alloc, text)?,
+        kind: ParamKind::ReadPointer,
+    })
+}
+
+/// `uint8_t *text`
+pub(crate) fn output(alloc: Global, text: &[u8]) -> Result<Param, OutOfMemory>
+    ensures { IfOk result (λ p. p ≡ spec.output text.now) }
+{
+    Ok(Param {
+        name: name(alloc, text)?,
+        kind: ParamKind::WritePointer,
+    })
+}
+
+/// `(const uint8_t *buf, uint64_t at)`
+pub(crate) fn place_params(alloc: Global) -> Result<ParamList, OutOfMemory>
+    ensures { IfOk result (λ ps. ps ≡ spec.pointer v.buf ∷ spec.number v.at ∷ []) }
+{
+    let mut params = one(alloc, pointer(alloc, b"buf")?)?;
+    params.push(number(alloc, b"at")?)?;
+    Ok(params)
+}
+
+/// `(const uint8_t *buf, uint64_t len, uint64_t at)`
+pub(crate) fn window_params(alloc: Global) -> Result<ParamList, OutOfMemory>
+    ensures { IfOk result (λ ps. ps ≡ spec.pointer v.buf ∷ spec.number v.len ∷ spec.number v.at ∷ []) }
+{
+    let mut params = one(alloc, pointer(alloc, b"buf")?)?;
+    params.push(number(alloc, b"len")?)?;
+    params.push(number(alloc, b"at")?)?;
+    Ok(params)
+}
+
+/// The function of this name.
+pub(crate) fn function(
+    alloc: Global,
+    text: &[u8],
+    params: ParamList,
+    body: StmtList,
+) -> Result<Function, OutOfMemory>
+    ensures { IfOk result (λ f. f ≡ record { name = text.now; params = params; body = body }) }
+{
+    Ok(Function {
+        name: name(alloc, text)?,
+        params,
+        body,
+    })
+}

@@ -1,0 +1,195 @@
+//! The functions over whole heads: the argument, and the place behind.
+
+ghost use Rattle.std.specs.Prelude.{◌≡◌, [], ◌∷◌, IfOk};
+ghost use Rattle.ecd_cast.specs.declared.tree.Op.TheVariants.{Lt, Gt, Ge, Eq, Ne, Shr};
+ghost use Rattle.ecd_cast.specs.declared.tree.Expr.TheVariants.{Number as ANumber, Var as AVar, Load as ALoad, Binary as ABinary};
+ghost use Rattle.ecd_fixed.specs.Shorthands as spec;
+ghost use Rattle.ecd_fixed.specs.Variables as v;
+ghost use Rattle.ecd_fixed.specs.Heads as trees;
+
+use crate::firsts::let_info;
+use crate::shorthands::{
+    byte_here, function, give_variable, guard, later_args, let_call, let_number, none_where,
+    number, place_args, place_params, plus, window_params,
+};
+use ecd_cast::build::{binary, load, one, var, when};
+use ecd_cast::tree::{Expr, ExprList, Function, Op, ParamList, Stmt, StmtList};
+use ecd_list::OutOfMemory;
+use std::alloc::Global;
+
+/// `if (info < 24ull) { return info; } else { }`
+fn in_first(alloc: Global) -> Result<Stmt, OutOfMemory>
+    ensures { IfOk result (λ s. s ≡ spec.guard Lt (AVar v.info) (ANumber 24) (AVar v.info)) }
+{
+    let info = var(alloc, b"info")?;
+    guard(alloc, Op::Lt, info, Expr::Number(24), var(alloc, b"info")?)
+}
+
+/// `if (info == 24ull) { return (uint64_t)buf[(at + 1ull)]; } else { }`
+fn in_next(alloc: Global) -> Result<Stmt, OutOfMemory>
+    ensures { IfOk result (λ s. s ≡ spec.guard Eq (AVar v.info) (ANumber 24) (ALoad v.buf (spec.plus v.at 1))) }
+{
+    let info = var(alloc, b"info")?;
+    let next = load(alloc, b"buf", plus(alloc, b"at", 1)?)?;
+    guard(alloc, Op::Eq, info, Expr::Number(24), next)
+}
+
+/// `if (info == number) { uint64_t text = part(buf, (at + 1ull)); return text; } else { }`
+fn where_wide(alloc: Global, number: u64, text: &[u8], part: &[u8]) -> Result<Stmt, OutOfMemory>
+    ensures { IfOk result (λ s. s ≡ trees.where_wide number text.now part.now) }
+{
+    let test = binary(alloc, Op::Eq, var(alloc, b"info")?, Expr::Number(number))?;
+    let mut wide = one(alloc, let_call(alloc, text, part, later_args(alloc, 1)?)?)?;
+    wide.push(give_variable(alloc, text)?)?;
+    Ok(when(alloc, test, wide))
+}
+
+/// The narrow forms: the argument stands in the first byte or the next one.
+fn narrow_cases(alloc: Global) -> Result<StmtList, OutOfMemory>
+    ensures { IfOk result (λ b. b ≡ trees.narrow_cases) }
+{
+    let mut cases = one(alloc, let_number(alloc, b"first", byte_here(alloc)?)?)?;
+    cases.push(let_info(alloc)?)?;
+    cases.push(in_first(alloc)?)?;
+    cases.push(in_next(alloc)?)?;
+    Ok(cases)
+}
+
+fn argument_body(alloc: Global) -> Result<StmtList, OutOfMemory>
+    ensures { IfOk result (λ b. b ≡ trees.argument_body) }
+{
+    let mut body = narrow_cases(alloc)?;
+    body.push(where_wide(alloc, 25, b"argument16", b"load_be16")?)?;
+    body.push(where_wide(alloc, 26, b"argument32", b"load_be32")?)?;
+    body.push(let_call(alloc, b"argument64", b"load_be64", later_args(alloc, 1)?)?)?;
+    body.push(give_variable(alloc, b"argument64")?)?;
+    Ok(body)
+}
+
+/// The argument of the head at a place.
+#[tactic(auto, unfolding(crate::specs::Heads::head_argument))]
+pub(crate) fn head_argument(alloc: Global) -> Result<Function, OutOfMemory>
+    ensures { IfOk result (λ f. f ≡ trees.head_argument) }
+{
+    function(
+        alloc,
+        b"head_argument",
+        place_params(alloc)?,
+        argument_body(alloc)?,
+    )
+}
+
+/// `(at + size)`
+fn behind_head(alloc: Global) -> Result<Expr, OutOfMemory>
+    ensures { IfOk result (λ e. e ≡ trees.behind_head) }
+{
+    binary(alloc, Op::Add, var(alloc, b"at")?, var(alloc, b"size")?)
+}
+
+/// `uint64_t text = part(first);`
+fn let_by_first(alloc: Global, text: &[u8], part: &[u8]) -> Result<Stmt, OutOfMemory>
+    ensures { IfOk result (λ s. s ≡ spec.let_call text.now part.now (AVar v.first ∷ [])) }
+{
+    let_call(alloc, text, part, one(alloc, var(alloc, b"first")?)?)
+}
+
+/// `if (left op right) { return 0ull; } else { }`
+fn none_by(alloc: Global, op: Op, left: &[u8], right: &[u8]) -> Result<Stmt, OutOfMemory>
+    ensures { IfOk result (λ s. s ≡ trees.none_where op (AVar left.now) (AVar right.now)) }
+{
+    none_where(alloc, op, var(alloc, left)?, var(alloc, right)?)
+}
+
+/// `if (text == 0ull) { return 0ull; } else { }`
+fn none_without(alloc: Global, text: &[u8]) -> Result<Stmt, OutOfMemory>
+    ensures { IfOk result (λ s. s ≡ trees.none_where Eq (AVar text.now) (ANumber 0)) }
+{
+    none_where(alloc, Op::Eq, var(alloc, text)?, Expr::Number(0))
+}
+
+/// `if ((at + size) > len) { return 0ull; } else { }`
+fn none_where_cut(alloc: Global) -> Result<Stmt, OutOfMemory>
+    ensures { IfOk result (λ s. s ≡ trees.none_where Gt trees.behind_head (AVar v.len)) }
+{
+    none_where(alloc, Op::Gt, behind_head(alloc)?, var(alloc, b"len")?)
+}
+
+fn end_body(alloc: Global) -> Result<StmtList, OutOfMemory>
+    ensures { IfOk result (λ b. b ≡ trees.end_body) }
+{
+    let mut body = one(alloc, none_by(alloc, Op::Ge, b"at", b"len")?)?;
+    body.push(let_number(alloc, b"first", byte_here(alloc)?)?)?;
+    body.push(let_by_first(alloc, b"size", b"head_size")?)?;
+    body.push(none_without(alloc, b"size")?)?;
+    body.push(none_where_cut(alloc)?)?;
+    body.push(let_call(alloc, b"argument", b"head_argument", place_args(alloc)?)?)?;
+    body.push(let_by_first(alloc, b"least", b"head_least")?)?;
+    body.push(none_by(alloc, Op::Lt, b"argument", b"least")?)?;
+    body.push(Stmt::Return(behind_head(alloc)?))?;
+    Ok(body)
+}
+
+/// The place behind the head at a place.
+#[tactic(auto, unfolding(crate::specs::Heads::head_end))]
+pub(crate) fn head_end(alloc: Global) -> Result<Function, OutOfMemory>
+    ensures { IfOk result (λ f. f ≡ trees.head_end) }
+{
+    function(alloc, b"head_end", window_params(alloc)?, end_body(alloc)?)
+}
+
+/// `if (((uint64_t)buf[at] >> 5ull) != major) { return 0ull; } else { }`
+fn other_major(alloc: Global) -> Result<Stmt, OutOfMemory>
+    ensures { IfOk result (λ s. s ≡ trees.none_where Ne (ABinary Shr trees.byte_here (ANumber 5)) (AVar v.major)) }
+{
+    let high = binary(alloc, Op::Shr, byte_here(alloc)?, Expr::Number(5))?;
+    none_where(alloc, Op::Ne, high, var(alloc, b"major")?)
+}
+
+/// `(buf, len, at)`
+fn window_args(alloc: Global) -> Result<ExprList, OutOfMemory>
+    ensures { IfOk result (λ es. es ≡ AVar v.buf ∷ AVar v.len ∷ AVar v.at ∷ []) }
+{
+    let mut args = one(alloc, var(alloc, b"buf")?)?;
+    args.push(var(alloc, b"len")?)?;
+    args.push(var(alloc, b"at")?)?;
+    Ok(args)
+}
+
+fn within_body(alloc: Global) -> Result<StmtList, OutOfMemory>
+    ensures { IfOk result (λ b. b ≡ trees.within_body) }
+{
+    let mut body = one(
+        alloc,
+        let_call(alloc, b"end", b"head_end", window_args(alloc)?)?,
+    )?;
+    body.push(none_without(alloc, b"end")?)?;
+    body.push(other_major(alloc)?)?;
+    body.push(let_call(alloc, b"argument", b"head_argument", place_args(alloc)?)?)?;
+    body.push(none_by(alloc, Op::Lt, b"argument", b"lo")?)?;
+    body.push(none_by(alloc, Op::Gt, b"argument", b"hi")?)?;
+    body.push(give_variable(alloc, b"end")?)?;
+    Ok(body)
+}
+
+fn within_params(alloc: Global) -> Result<ParamList, OutOfMemory>
+    ensures { IfOk result (λ ps. ps ≡ spec.pointer v.buf ∷ spec.number v.len ∷ spec.number v.at ∷ spec.number v.major ∷ spec.number v.lo ∷ spec.number v.hi ∷ []) }
+{
+    let mut params = window_params(alloc)?;
+    params.push(number(alloc, b"major")?)?;
+    params.push(number(alloc, b"lo")?)?;
+    params.push(number(alloc, b"hi")?)?;
+    Ok(params)
+}
+
+/// The place behind the head at a place, where its major type and its argument are as asked.
+#[tactic(auto, unfolding(crate::specs::Heads::head_within))]
+pub(crate) fn head_within(alloc: Global) -> Result<Function, OutOfMemory>
+    ensures { IfOk result (λ f. f ≡ trees.head_within) }
+{
+    function(
+        alloc,
+        b"head_within",
+        within_params(alloc)?,
+        within_body(alloc)?,
+    )
+}

@@ -1,9 +1,0 @@
-use Rattle.ecd_rt.proofs.Framing.{valid_framed}
-use Rattle.ecd_rt.proofs.Owing.{framed_end_once}
-use Rattle.ecd_rt.proofs.laws.framed_items.Goals as goal
-
-pub returns-clause-valid : goal.returns-clause-valid
-returns-clause-valid c = valid_framed
-
-pub returns-clause-once : goal.returns-clause-once
-returns-clause-once c = framed_end_once

@@ -1,5 +1,0 @@
-use Rattle.ecd_rt.proofs.Kept.{heads_are_kept}
-use Rattle.ecd_rt.proofs.laws.heads_are_kept.Goals as goal
-
-pub returns : goal.returns
-returns c = heads_are_kept
