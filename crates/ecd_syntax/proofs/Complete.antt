@@ -51,7 +51,7 @@ InArrow n = (n ≢ 12) × (n ≢ 3) × (n ≢ 6) × (n ≢ 10)
 abbrev InEntry : ℕ → Type 0
 InEntry n = (n ≢ 12) × (n ≢ 3) × (n ≢ 6) × (n ≢ 8) × (n ≢ 9) × (n ≢ 10)
 
-key_from : AKey → Key
+unfoldable pub key_from : AKey → Key
 key_from forms.Missing = keys.Missing
 key_from (forms.Arrow of cut) = keys.Arrow of cut
 key_from (forms.Word name) = keys.Word name
@@ -64,10 +64,10 @@ key_rolls (forms.Arrow of cut) = rolls-Arrow of cut
 key_rolls (forms.Word name) = rolls-Word name
 key_rolls (forms.Key::Lit at of) = rolls-key-Lit at of
 
-key_back : (k : Key) → key_from (out-Key k) ≡ k
+pub key_back : (k : Key) → key_from (out-Key k) ≡ k
 key_back k = sym (key_rolls (out-Key k)) ∙ roll-out-Key k
 
-form_from : AForm → Form
+unfoldable pub form_from : AForm → Form
 form_from (forms.Form::Lit literal) = Lit literal
 form_from (forms.Named name args) = Named name args
 form_from (forms.Paren g) = Paren g
@@ -92,7 +92,7 @@ form_rolls (forms.EnumName name args) = rolls-EnumName name args
 form_rolls (forms.Tagged number body) = rolls-Tagged number body
 form_rolls (forms.Hash major arg) = rolls-Hash major arg
 
-form_back : (f : Form) → form_from (out-Form f) ≡ f
+pub form_back : (f : Form) → form_from (out-Form f) ≡ f
 form_back f = sym (form_rolls (out-Form f)) ∙ roll-out-Form f
 
 told_paren : Told 17

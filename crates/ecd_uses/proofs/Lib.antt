@@ -1,3 +1,4 @@
 pub mod Layers
 pub mod Only
 pub mod Pushing
+pub mod Inside

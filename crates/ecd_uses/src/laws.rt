@@ -1,6 +1,12 @@
 //! Laws of leads and sites: the definitions case by case, over the lists that a tree holds.
 
 ghost use Rattle.ecd_uses.specs.Laws.{EntryLead, TypeLead, ChoiceLead, GroupLead, NamedLead, ParenthesisLead, OtherLeads, EntrySites, KeySites, TypeSites, ChoiceSites, ValueSites, NamedSites, ParenthesisSites, MapSites, ArraySites, UnwrapSites, EnumSites, EnumNameSites, TagSites, HashSites, GroupSites};
+ghost use Rattle.ecd_uses.specs.Places.{RulesStandInside};
+
+/// The names, parameters and sites of rules stand at places of the tokens that spell them.
+pub fn rules_stand_inside()
+    ensures { RulesStandInside }
+{}
 
 /// What decides the kind of an entry (RFC 8610, sections 2.1 and 2.2), case by case.
 pub fn leads_over_lists()
