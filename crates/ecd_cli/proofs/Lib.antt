@@ -8,4 +8,3 @@ pub mod Machines
 pub mod Denying
 pub mod Due
 pub mod Texts
-pub mod Consuming

@@ -11,6 +11,7 @@ use Rattle.ecd_compile.specs.Schema.{IsSchema, IsTold, HasCause}
 use Rattle.ecd_compile.specs.Thin.{IsThin}
 use Rattle.ecd_compile.specs.Reads.{IsCompiled}
 use Rattle.ecd_cast.specs.declared.tree.Program.{Program}
+use Rattle.ecd_reader.specs.Takes.{BeginsWith}
 use Rattle.ecd_cli.specs.Asked.{Asked, check, compile, read, write, copy, run, sample}
 use Rattle.ecd_cli.specs.Calls.{IsNotRun, IsRun, IsRunText}
 use Rattle.ecd_cli.specs.Files.{Wanted, files_of, AreRead, IsTooLarge, IsOneMissing}
@@ -54,20 +55,11 @@ pub record IsNumber (schema root : List ℕ) (number : ℕ) : Type 0 where
 abbrev pub IsAnyNumber : List ℕ → List ℕ → Type 0
 IsAnyNumber schema root = (number : ℕ) × IsNumber schema root number
 
--- the data begin with the number's encoding, which is one byte
-abbrev pub BeginsWith : ℕ → List ℕ → Type 0
-BeginsWith number [] = ⊥
-BeginsWith number (byte ∷ bytes) = byte ≡ number
-
 abbrev pub BeginWithItem : List ℕ → List ℕ → List ℕ → Type 0
 BeginWithItem schema root input = (number : ℕ) × IsNumber schema root number × BeginsWith number input
 
 abbrev pub BeginWithNone : List ℕ → List ℕ → List ℕ → Type 0
 BeginWithNone schema root input = (number : ℕ) × IsNumber schema root number × (BeginsWith number input → ⊥)
-
--- a reader of the number takes so many of the bytes: the one, or none
-abbrev pub Takes : ℕ → List ℕ → ℕ → Type 0
-Takes number input taken = ((taken ≡ 1) × BeginsWith number input) ⊎ ((taken ≡ 0) × (BeginsWith number input → ⊥))
 
 -- ---- commands over the contents of their files
 

@@ -11,12 +11,12 @@ ghost use Rattle.ecd_cli.specs.Answers.{outcome_of};
 use crate::answer::Answer;
 use crate::cfiles::{MOST_C_TEXT, program_of, returned};
 use crate::contents::{MOST_DATA, contents_of};
-use crate::reader::consumed;
 use crate::schemas::compile_schema;
 use crate::words::{Command, SchemaWords};
 use ecd_lex::MOST_BYTES;
 use ecd_list::{ByteList, OutOfMemory};
 use ecd_outside::Files;
+use ecd_reader::consumed;
 use std::alloc::Global;
 
 /// A text of these bytes.

@@ -7,7 +7,6 @@ pub mod cfiles;
 pub mod commands;
 pub mod contents;
 pub mod laws;
-pub mod reader;
 pub mod run;
 pub mod schemas;
 pub mod status;

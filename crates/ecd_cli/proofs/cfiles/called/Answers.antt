@@ -3,7 +3,7 @@ use Rattle.ecd_cast.specs.Fitting.{Fits}
 use Rattle.ecd_ceval.specs.Machines.{Seen}
 use Rattle.ecd_cli.specs.Outcomes.{Outcome, OutOfMemory}
 use Rattle.ecd_cli.specs.Calls.{IsHalted}
-use Rattle.ecd_cli.proofs.Consuming.{two_blocks}
+use Rattle.ecd_reader.proofs.Consuming.{two_blocks}
 use Rattle.ecd_cli.proofs.Machines.{seen_for, values_for, machine_for, call_fits, call_returns, call_halts}
 use Rattle.ecd_cli.proofs.cfiles.called.Goals as goal
 

@@ -2,7 +2,8 @@ use Rattle.std.proofs.Common.{◌≡◌, ◌⊎◌, ⊎_elim, inl, inr, [], ◌�
 use Rattle.std.specs.Prelude.{codes}
 use Rattle.ecd_cli.specs.Asked.{read}
 use Rattle.ecd_cli.specs.Commands.{schema_asked}
-use Rattle.ecd_cli.specs.Causes.{IsText, BeginsWith, Takes}
+use Rattle.ecd_cli.specs.Causes.{IsText}
+use Rattle.ecd_reader.specs.Takes.{BeginsWith, Takes}
 use Rattle.ecd_cli.specs.Answers.{outcome_of}
 use Rattle.ecd_cli.proofs.Texts.{refused_has_none, none_has_none, ok_text}
 use Rattle.ecd_cli.proofs.commands.read_text.Goals as goal

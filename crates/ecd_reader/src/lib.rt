@@ -1,13 +1,14 @@
 //! The emitted reader, called on data.
+#![tactic(auto)]
 
 ghost use Rattle.std.specs.Prelude.{◌<◌, ◌^◌, ℕ, IfOk, length};
 ghost use Rattle.ecd_cast.specs.Validity.{IsValid};
 ghost use Rattle.ecd_compile.specs.Reads.{HasInterface, ReadsByte};
-ghost use Rattle.ecd_cli.specs.Causes.{Takes};
+ghost use Rattle.ecd_reader.specs.Takes.{Takes};
 
 use ecd_cast::builder::Valid;
 use ecd_ceval::{Arg, Block, BlockList, Machine};
-use ecd_list::OutOfMemory;
+pub use ecd_list::OutOfMemory;
 use std::alloc::Global;
 
 /// What `read_0` answers on the data: how many bytes it takes.
@@ -35,5 +36,28 @@ pub fn consumed(alloc: Global, program: &Valid, input: &[u8]) -> Result<u64, Out
     match machine.call(reader, &args, None) {
         Ok(taken) => Ok(taken),
         Err(_) => Err(OutOfMemory),
+    }
+}
+
+#[cfg(test)]
+mod tests {
+    use super::*;
+    use ecd_compile::compile;
+    use std::test::Fail;
+
+    #[test]
+    fn one_byte_is_taken_where_it_is_the_number(rt: HostRuntime) -> Result<(), Fail> {
+        let compiled = compile(rt.alloc(), b"x = 5", "x", 0).ok();
+        let compiled = compiled.ok_or("refused")?;
+        for (input, taken) in [
+            (b"".as_slice(), 0),
+            (b"\x05".as_slice(), 1),
+            (b"\x05\x06".as_slice(), 1),
+            (b"\x06\x05".as_slice(), 0),
+        ] {
+            let found = consumed(rt.alloc(), &compiled.program, input)?;
+            assert_eq!(rt; found, taken, "{input:?}");
+        }
+        Ok(())
     }
 }

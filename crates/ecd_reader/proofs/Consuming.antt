@@ -24,7 +24,7 @@ use Rattle.ecd_cast.specs.declared.tree.StructDecl.{StructDecl}
 use Rattle.ecd_ceval.proofs.Naming.{numbers_mean_names}
 use Rattle.ecd_compile.specs.Reader.{unit_struct, reader_params}
 use Rattle.ecd_compile.specs.Reads.{HasInterface, ReadsByte, Gives, reading}
-use Rattle.ecd_cli.specs.Causes.{BeginsWith, Takes}
+use Rattle.ecd_reader.specs.Takes.{BeginsWith, Takes}
 
 same_name : (x : Name) → bytes_eq x x ≡ true
 same_name x = (bytes_eq-Decides x x).1 refl

@@ -1,0 +1,28 @@
+//! Tables of cases.
+
+use crate::case::Case;
+
+/// A case of depth 0.
+fn case(schema: &'static str, root: &'static str, bytes: &'static str, consumed: u64) -> Case {
+    Case {
+        schema,
+        root,
+        depth: 0,
+        bytes,
+        consumed,
+    }
+}
+
+/// Schemas of one small number.
+pub fn numbers() -> [Case; 8] {
+    [
+        case("x = 5", "x", "05", 1),
+        case("x = 5", "x", "06", 0),
+        case("x = 5", "x", "", 0),
+        case("x = 5", "x", "0506", 1),
+        case("a = 0", "a", "00ff", 1),
+        case("z = 23", "z", "17", 1),
+        case("z = 23", "z", "1817", 0),
+        case("n = 0x05 ; five", "n", "05", 1),
+    ]
+}
