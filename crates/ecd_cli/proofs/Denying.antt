@@ -15,10 +15,10 @@ refused_once schema root o p a b =
     a.is ∙ ap (outcome_of_refusal schema) refusal ∙ sym b.is
 
 refused_or_number : (schema root : List ℕ) (o : Outcome) → IsRefused schema root o → IsAnyNumber schema root → ⊥
-refused_or_number schema root o a b = never_refused schema root b.1.tree b.0 a.refusal b.1.parsed b.1.thin a.names_cause a.cause
+refused_or_number schema root o a b = never_refused schema root b.1.tree b.0 a.refusal b.1.parsed b.1.sound b.1.thin a.names_cause a.cause
 
 compiled_number : (schema root text : List ℕ) → IsCompiledTo schema root text → IsAnyNumber schema root
-compiled_number schema root text t = (t.compiled.number, record { tree = t.compiled.tree; parsed = t.compiled.parsed; thin = t.compiled.thin })
+compiled_number schema root text t = (t.compiled.number, record { tree = t.compiled.tree; parsed = t.compiled.parsed; sound = t.compiled.sound; thin = t.compiled.thin })
 
 -- the root holds one number
 one_number : (schema root : List ℕ) (m n : ℕ) → IsNumber schema root m → IsNumber schema root n → m ≡ n

@@ -61,6 +61,7 @@ refusal_decided : (schema : List ℕ) (r : Refusal) → IsTold r → IsDecided (
 refusal_decided schema (refusals.NotUtf8 p) is = tt
 refusal_decided schema (refusals.Lex p r) is = tt
 refusal_decided schema (refusals.Parse p r) is = tt
+refusal_decided schema (refusals.Name p r) is = tt
 refusal_decided schema refusals.NotBuilt is = tt
 refusal_decided schema refusals.OutOfMemory is = absurd is
 

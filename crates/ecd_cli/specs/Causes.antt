@@ -9,6 +9,7 @@ use Rattle.ecd_compile.specs.declared.refusal.Refusal.{Refusal}
 use Rattle.ecd_compile.specs.declared.refusal.Refusal.TheVariants as refusals
 use Rattle.ecd_compile.specs.Schema.{IsSchema, IsTold, HasCause}
 use Rattle.ecd_compile.specs.Thin.{IsThin}
+use Rattle.ecd_names.specs.Breaks.{BreaksNone}
 use Rattle.ecd_compile.specs.Reads.{IsCompiled}
 use Rattle.ecd_cast.specs.declared.tree.Program.{Program}
 use Rattle.ecd_reader.specs.Takes.{BeginsWith}
@@ -29,6 +30,7 @@ abbrev pub outcome_of_refusal : List ℕ → Refusal → Outcome
 outcome_of_refusal schema (refusals.NotUtf8 place) = broken schema place (codes "T") 0
 outcome_of_refusal schema (refusals.Lex place rule) = broken schema place (codes "X") rule
 outcome_of_refusal schema (refusals.Parse place rule) = broken schema place (codes "P") rule
+outcome_of_refusal schema (refusals.Name place rule) = broken schema place (codes "N") rule
 outcome_of_refusal schema refusals.NotBuilt = NotBuilt
 outcome_of_refusal schema refusals.OutOfMemory = OutOfMemory
 
@@ -46,10 +48,11 @@ pub record IsCompiledTo (schema root text : List ℕ) : Type 0 where
 
 -- ---- data: the schemas that are taken so far are one small number
 
--- the schema's root holds this one number
+-- the schema breaks no rule, and its root holds this one number
 pub record IsNumber (schema root : List ℕ) (number : ℕ) : Type 0 where
   pub tree : Tree
   pub parsed : IsSchema schema tree
+  pub sound : BreaksNone tree.rules
   pub thin : IsThin tree root number
 
 abbrev pub IsAnyNumber : List ℕ → List ℕ → Type 0

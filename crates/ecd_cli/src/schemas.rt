@@ -38,6 +38,7 @@ fn refused(schema: &[u8], refusal: Refusal) -> Answer<'static>
         Refusal::NotUtf8 { place } => broken(schema, place, "T", 0),
         Refusal::Lex { place, rule } => broken(schema, place, "X", rule),
         Refusal::Parse { place, rule } => broken(schema, place, "P", rule),
+        Refusal::Name { place, rule } => broken(schema, place, "N", rule),
         Refusal::NotBuilt => Answer::NotBuilt,
         Refusal::OutOfMemory => Answer::OutOfMemory,
     }

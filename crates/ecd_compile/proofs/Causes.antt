@@ -11,9 +11,11 @@ use Rattle.ecd_syntax.specs.Faults.{IsWithin, UnexpectedAt, TooNestedAt}
 use Rattle.ecd_syntax.proofs.Verdicts.{one_spelled, one_unexpected, one_nested, nested_not_within, nested_not_unexpected, unexpected_no_schema}
 use Rattle.ecd_cast.specs.declared.tree.Program.{Program}
 use Rattle.ecd_compile.specs.declared.refusal.Refusal.{Refusal}
-use Rattle.ecd_compile.specs.declared.refusal.Refusal.TheVariants.{NotUtf8, Lex, Parse, NotBuilt, OutOfMemory}
-use Rattle.ecd_compile.specs.Schema.{IsSchema, IsSyntaxFault, IsNoSchema, IsNoText, BreaksLexemes, IsNotThin, HasCause, IsTold, HasOneCause}
+use Rattle.ecd_compile.specs.declared.refusal.Refusal.TheVariants.{NotUtf8, Lex, Parse, Name, NotBuilt, OutOfMemory}
+use Rattle.ecd_compile.specs.Schema.{IsSchema, IsSyntaxFault, IsNoSchema, IsNoText, BreaksLexemes, BreaksNames, IsNotThin, HasCause, IsTold, HasOneCause}
 use Rattle.ecd_compile.specs.Thin.{IsThin}
+use Rattle.ecd_names.specs.Breaks.{BreaksNone, IsFirst}
+use Rattle.ecd_names.proofs.Firsts.{one_first, none_first}
 use Rattle.ecd_compile.specs.Reads.{IsNeverRefused}
 use Rattle.ecd_compile.proofs.LoneRule.{one_thin}
 
@@ -53,40 +55,62 @@ no_schema_same text p q r s a b =
 lexemes_same : (text : List ℕ) (p q r s : ℕ) → BreaksLexemes text p r → BreaksLexemes text q s → Lex p r ≡ Lex q s
 lexemes_same text p q r s a b = let e = one_fault text p q r s a.first b.first in λ i. Lex (e.0 i) (e.1 i)
 
-pub one_cause : HasOneCause
-one_cause text root (NotUtf8 p) (NotUtf8 q) x y a b = ap NotUtf8 (one_front text p q a.stands b.stands)
-one_cause text root (NotUtf8 p) (Lex q s) x y a b = absurd (a.bad b.utf8)
-one_cause text root (NotUtf8 p) (Parse q s) x y a b = absurd (a.bad b.utf8)
-one_cause text root (NotUtf8 p) NotBuilt x y a b = absurd (a.bad b.schema.utf8)
-one_cause text root (NotUtf8 p) OutOfMemory x y a b = absurd y
-one_cause text root (Lex p r) (NotUtf8 q) x y a b = absurd (b.bad a.utf8)
-one_cause text root (Lex p r) (Lex q s) x y a b = lexemes_same text p q r s a b
-one_cause text root (Lex p r) (Parse q s) x y a b = absurd (no_list_and_fault text b.tokens p r b.lexemes a.first)
-one_cause text root (Lex p r) NotBuilt x y a b = absurd (no_list_and_fault text b.schema.tokens p r b.schema.lexemes a.first)
-one_cause text root (Lex p r) OutOfMemory x y a b = absurd y
-one_cause text root (Parse p r) (NotUtf8 q) x y a b = absurd (b.bad a.utf8)
-one_cause text root (Parse p r) (Lex q s) x y a b = absurd (no_list_and_fault text a.tokens q s a.lexemes b.first)
-one_cause text root (Parse p r) (Parse q s) x y a b = no_schema_same text p q r s a b
-one_cause text root (Parse p r) NotBuilt x y a b = absurd (no_schema_or_schema text b.tree p r a b.schema)
-one_cause text root (Parse p r) OutOfMemory x y a b = absurd y
-one_cause text root NotBuilt (NotUtf8 q) x y a b = absurd (b.bad a.schema.utf8)
-one_cause text root NotBuilt (Lex q s) x y a b = absurd (no_list_and_fault text a.schema.tokens q s a.schema.lexemes b.first)
-one_cause text root NotBuilt (Parse q s) x y a b = absurd (no_schema_or_schema text a.tree q s b a.schema)
-one_cause text root NotBuilt NotBuilt x y a b = refl
-one_cause text root NotBuilt OutOfMemory x y a b = absurd y
-one_cause text root OutOfMemory s x y a b = absurd x
-
 same_tree : (text : List ℕ) (t u : Tree) → IsSchema text t → IsSchema text u → t ≡ u
 same_tree text t u a b =
     let same : a.tokens ≡ b.tokens = one_list text a.tokens b.tokens a.lexemes b.lexemes in
     one_spelled t u b.tokens (subst (λ (ts : List Token). Spells t ts) same a.spells) b.spells
 
+names_same : (text : List ℕ) (p q r s : ℕ) → BreaksNames text p r → BreaksNames text q s → Name p r ≡ Name q s
+names_same text p q r s a b =
+    let same : b.tree ≡ a.tree = same_tree text b.tree a.tree b.schema a.schema in
+    let e = one_first a.tree.rules p r q s a.first (subst (λ (t : Tree). IsFirst t.rules q s) same b.first) in
+    λ i. Name (e.0 i) (e.1 i)
+
+sound_or_names : (text : List ℕ) (tree : Tree) (p r : ℕ) → BreaksNames text p r → IsSchema text tree → BreaksNone tree.rules → ⊥
+sound_or_names text tree p r a parsed sound =
+    let same : a.tree ≡ tree = same_tree text a.tree tree a.schema parsed in
+    none_first tree.rules p r sound (subst (λ (t : Tree). IsFirst t.rules p r) same a.first)
+
+pub one_cause : HasOneCause
+one_cause text root (NotUtf8 p) (NotUtf8 q) x y a b = ap NotUtf8 (one_front text p q a.stands b.stands)
+one_cause text root (NotUtf8 p) (Lex q s) x y a b = absurd (a.bad b.utf8)
+one_cause text root (NotUtf8 p) (Parse q s) x y a b = absurd (a.bad b.utf8)
+one_cause text root (NotUtf8 p) (Name q s) x y a b = absurd (a.bad b.schema.utf8)
+one_cause text root (NotUtf8 p) NotBuilt x y a b = absurd (a.bad b.schema.utf8)
+one_cause text root (NotUtf8 p) OutOfMemory x y a b = absurd y
+one_cause text root (Lex p r) (NotUtf8 q) x y a b = absurd (b.bad a.utf8)
+one_cause text root (Lex p r) (Lex q s) x y a b = lexemes_same text p q r s a b
+one_cause text root (Lex p r) (Parse q s) x y a b = absurd (no_list_and_fault text b.tokens p r b.lexemes a.first)
+one_cause text root (Lex p r) (Name q s) x y a b = absurd (no_list_and_fault text b.schema.tokens p r b.schema.lexemes a.first)
+one_cause text root (Lex p r) NotBuilt x y a b = absurd (no_list_and_fault text b.schema.tokens p r b.schema.lexemes a.first)
+one_cause text root (Lex p r) OutOfMemory x y a b = absurd y
+one_cause text root (Parse p r) (NotUtf8 q) x y a b = absurd (b.bad a.utf8)
+one_cause text root (Parse p r) (Lex q s) x y a b = absurd (no_list_and_fault text a.tokens q s a.lexemes b.first)
+one_cause text root (Parse p r) (Parse q s) x y a b = no_schema_same text p q r s a b
+one_cause text root (Parse p r) (Name q s) x y a b = absurd (no_schema_or_schema text b.tree p r a b.schema)
+one_cause text root (Parse p r) NotBuilt x y a b = absurd (no_schema_or_schema text b.tree p r a b.schema)
+one_cause text root (Parse p r) OutOfMemory x y a b = absurd y
+one_cause text root (Name p r) (NotUtf8 q) x y a b = absurd (b.bad a.schema.utf8)
+one_cause text root (Name p r) (Lex q s) x y a b = absurd (no_list_and_fault text a.schema.tokens q s a.schema.lexemes b.first)
+one_cause text root (Name p r) (Parse q s) x y a b = absurd (no_schema_or_schema text a.tree q s b a.schema)
+one_cause text root (Name p r) (Name q s) x y a b = names_same text p q r s a b
+one_cause text root (Name p r) NotBuilt x y a b = absurd (sound_or_names text b.tree p r a b.schema b.sound)
+one_cause text root (Name p r) OutOfMemory x y a b = absurd y
+one_cause text root NotBuilt (NotUtf8 q) x y a b = absurd (b.bad a.schema.utf8)
+one_cause text root NotBuilt (Lex q s) x y a b = absurd (no_list_and_fault text a.schema.tokens q s a.schema.lexemes b.first)
+one_cause text root NotBuilt (Parse q s) x y a b = absurd (no_schema_or_schema text a.tree q s b a.schema)
+one_cause text root NotBuilt (Name q s) x y a b = absurd (sound_or_names text a.tree q s b a.schema a.sound)
+one_cause text root NotBuilt NotBuilt x y a b = refl
+one_cause text root NotBuilt OutOfMemory x y a b = absurd y
+one_cause text root OutOfMemory s x y a b = absurd x
+
 pub never_refused : IsNeverRefused
-never_refused schema root tree number (NotUtf8 q) parsed thin x a = a.bad parsed.utf8
-never_refused schema root tree number (Lex q s) parsed thin x a = no_list_and_fault schema parsed.tokens q s parsed.lexemes a.first
-never_refused schema root tree number (Parse q s) parsed thin x a = no_schema_or_schema schema tree q s a parsed
-never_refused schema root tree number NotBuilt parsed thin x a = a.other number (subst (λ (t : Tree). IsThin t root number) (same_tree schema tree a.tree parsed a.schema) thin)
-never_refused schema root tree number OutOfMemory parsed thin x a = x
+never_refused schema root tree number (NotUtf8 q) parsed sound thin x a = a.bad parsed.utf8
+never_refused schema root tree number (Lex q s) parsed sound thin x a = no_list_and_fault schema parsed.tokens q s parsed.lexemes a.first
+never_refused schema root tree number (Parse q s) parsed sound thin x a = no_schema_or_schema schema tree q s a parsed
+never_refused schema root tree number (Name q s) parsed sound thin x a = sound_or_names schema tree q s a parsed sound
+never_refused schema root tree number NotBuilt parsed sound thin x a = a.other number (subst (λ (t : Tree). IsThin t root number) (same_tree schema tree a.tree parsed a.schema) thin)
+never_refused schema root tree number OutOfMemory parsed sound thin x a = x
 
 -- a schema stands for one number
 pub thin_once : (schema root : List ℕ) (t u : Tree) (m n : ℕ) → IsSchema schema t → IsSchema schema u → IsThin t root m → IsThin u root n → m ≡ n

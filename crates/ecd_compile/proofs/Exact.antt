@@ -1,24 +1,35 @@
 -- An answer with a cause is the only one, and its place is one of the schema.
 use Rattle.std.proofs.Common.{◌≡◌, ℕ, ◌+◌, ◌<◌, ◌≤◌, ◌⊎◌, ⊎_elim, inl, inr, List, [], ◌∷◌, ◌++◌, length, refl, subst, arith}
-use Rattle.std.specs.Prelude.{Result, Ok, Err, IfOk, IfErr, MatchResult}
-use Rattle.std.specs.List.{AllByRecursion}
+use Rattle.std.specs.Prelude.{Option, Some, zero, suc, take, get_or, slice_get, Result, Ok, Err, IfOk, IfErr, MatchResult}
+use Rattle.std.specs.List.{AllByRecursion, Contains}
 use Rattle.ecd_lex.specs.declared.token.Token.{Token}
 use Rattle.ecd_lex.specs.Lexemes.{IsInside}
 use Rattle.ecd_syntax.specs.declared.tree.Tree.{Tree}
 use Rattle.ecd_syntax.specs.Faults.{UnexpectedAt, TooNestedAt, place_or}
 use Rattle.ecd_compile.specs.declared.refusal.Refusal.{Refusal}
-use Rattle.ecd_compile.specs.declared.refusal.Refusal.TheVariants.{NotUtf8, Lex, Parse, NotBuilt, OutOfMemory}
+use Rattle.ecd_compile.specs.declared.refusal.Refusal.TheVariants.{NotUtf8, Lex, Parse, Name, NotBuilt, OutOfMemory}
 use Rattle.ecd_parse.specs.declared.fault.ParseFault.{ParseFault}
 use Rattle.ecd_parse.specs.declared.fault.ParseFault.TheVariants as parses
-use Rattle.ecd_compile.specs.Refusals.{of_grammar_is}
+use Rattle.ecd_compile.specs.Refusals.{of_grammar_is, of_names_is}
 use Rattle.ecd_compile.specs.Schema.{IsSchema, HasCause, IsTold, StandsWithin}
 use Rattle.ecd_compile.specs.Thin.{IsThin}
+use Rattle.ecd_syntax.specs.declared.tree.Name.{Name as AName}
+use Rattle.ecd_syntax.specs.declared.tree.Rule.{Rule}
+use Rattle.ecd_uses.specs.declared.site.Site.{Site}
+use Rattle.ecd_uses.specs.declared.site.Site.TheVariants.{Use, Parenthesis}
+use Rattle.ecd_uses.specs.Sites.{sites_of}
+use Rattle.ecd_uses.specs.Places.{site_place, IsRuleInside}
+use Rattle.ecd_names.specs.declared.fault.NameFault.{NameFault}
+use Rattle.ecd_names.specs.declared.fault.NameFault.TheVariants as names
+use Rattle.ecd_names.specs.Stub.{TellsFirst}
+use Rattle.ecd_names.specs.Breaks.{Breaks, BreaksNone, RuleBreaks, AtName, AtParameter, AtSite, SiteBreaks, IsFirst}
 use Rattle.ecd_compile.proofs.Causes.{one_cause, never_refused}
 
 told_or_wants : (r : Refusal) → IsTold r ⊎ (r ≡ OutOfMemory)
 told_or_wants (NotUtf8 place) = inl tt
 told_or_wants (Lex place rule) = inl tt
 told_or_wants (Parse place rule) = inl tt
+told_or_wants (Name place rule) = inl tt
 told_or_wants NotBuilt = inl tt
 told_or_wants OutOfMemory = inr refl
 
@@ -30,10 +41,10 @@ only_refusal (Err r) P schema root ok err none cause told has =
     ⊎_elim (λ (t : IsTold r). inl (one_cause schema root r cause t told err has)) (λ (e : r ≡ OutOfMemory). inr e) (told_or_wants r)
 
 pub only_compiled : {A : Type 0} (result : Result A Refusal) (schema root : List ℕ) (tree : Tree) (number : ℕ) → IfErr result (λ r. HasCause schema root r)
-    → IsSchema schema tree → IsThin tree root number → IfErr result (λ r. r ≡ OutOfMemory)
-only_compiled (Ok a) schema root tree number err parsed thin = tt
-only_compiled (Err r) schema root tree number err parsed thin =
-    ⊎_elim (λ (t : IsTold r). absurd (never_refused schema root tree number r parsed thin t err)) (λ (e : r ≡ OutOfMemory). e) (told_or_wants r)
+    → IsSchema schema tree → BreaksNone tree.rules → IsThin tree root number → IfErr result (λ r. r ≡ OutOfMemory)
+only_compiled (Ok a) schema root tree number err parsed sound thin = tt
+only_compiled (Err r) schema root tree number err parsed sound thin =
+    ⊎_elim (λ (t : IsTold r). absurd (never_refused schema root tree number r parsed sound thin t err)) (λ (e : r ≡ OutOfMemory). e) (told_or_wants r)
 
 -- ---- places
 
@@ -58,3 +69,40 @@ pub grammar_within : (fault : ParseFault) (tokens : List Token) (end : ℕ) → 
 grammar_within (parses.Unexpected place) tokens end all unexpected nested = unexpected_within tokens end place all (unexpected place refl)
 grammar_within (parses.TooNested place) tokens end all unexpected nested = nested_within tokens end place all (nested place refl)
 grammar_within parses.OutOfMemory tokens end all unexpected nested = tt
+
+-- ---- places of names
+
+at_number : {A : Type 0} (P : A → Type 0) (xs : List A) (i : ℕ) (x : A) → AllByRecursion P xs → slice_get xs i ≡ Some x → P x
+at_number P [] i x all e = absurd cc
+at_number P (y ∷ ys) zero x all e = let same : y ≡ x = cc in subst P same all.0
+at_number P (y ∷ ys) (suc i) x all e = at_number P ys i x all.1 e
+
+at_index : {A : Type 0} (P : A → Type 0) (xs : List A) (i : ℕ) (x : A) → AllByRecursion P xs → i < length xs → get_or xs i x ≡ x → P x
+at_index P [] i x all lt e = absurd (omega (arith, lt))
+at_index P (y ∷ ys) zero x all lt e = subst P e all.0
+at_index P (y ∷ ys) (suc i) x all lt e = at_index P ys i x all.1 (omega (arith, lt)) e
+
+among_all : {A : Type 0} (P : A → Type 0) (xs : List A) (x : A) → AllByRecursion P xs → Contains xs x → P x
+among_all P xs x all c = at_index P xs c.0 x all c.1 c.2
+
+site_inside : (text : List Rule) (rule : Rule) (site : Site) (whole place number : ℕ) → SiteBreaks text rule site place number → site_place site < whole → place ≤ whole
+site_inside text rule (Use name args asked) whole place number h lt = omega (arith, h.0, lt)
+site_inside text rule (Parenthesis at lead) whole place number h lt = omega (arith, h.0, lt)
+
+rule_inside : (text before : List Rule) (rule : Rule) (whole place number : ℕ) → IsRuleInside whole rule → RuleBreaks text before rule place number → place ≤ whole
+rule_inside text before rule whole place number inside (AtName e broken) = omega (arith, e, inside.name)
+rule_inside text before rule whole place number inside (AtParameter index param e is repeated) =
+    let lt : param.at < whole = at_number (λ (p : AName). p.at < whole) rule.params index param inside.params repeated.stands in omega (arith, e, lt)
+rule_inside text before rule whole place number inside (AtSite site among broken) =
+    site_inside text rule site whole place number broken (among_all (λ (s : Site). site_place s < whole) (sites_of rule) site inside.sites among)
+
+broken_inside : (rules : List Rule) (whole place number : ℕ) → AllByRecursion (IsRuleInside whole) rules → Breaks rules place number → place ≤ whole
+broken_inside rules whole place number all b = rule_inside rules (take b.index rules) b.rule whole place number (at_number (IsRuleInside whole) rules b.index b.rule all b.stands) b.broken
+
+pub names_within : (rules : List Rule) (whole : ℕ) (fault : NameFault) → AllByRecursion (IsRuleInside whole) rules → TellsFirst rules fault → StandsWithin whole (of_names_is fault)
+names_within rules whole (names.At place rule) all first = broken_inside rules whole place rule all first.broken
+names_within rules whole names.OutOfMemory all first = tt
+
+pub names_cause : (text root : List ℕ) (tree : Tree) (fault : NameFault) → IsSchema text tree → TellsFirst tree.rules fault → HasCause text root (of_names_is fault)
+names_cause text root tree (names.At place rule) parsed first = record { tree = tree; schema = parsed; first = first }
+names_cause text root tree names.OutOfMemory parsed first = tt

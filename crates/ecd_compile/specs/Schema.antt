@@ -7,7 +7,8 @@ use Rattle.ecd_syntax.specs.declared.tree.Tree.{Tree}
 use Rattle.ecd_syntax.specs.Grammar.{Spells}
 use Rattle.ecd_syntax.specs.Faults.{IsWithin, UnexpectedAt, TooNestedAt}
 use Rattle.ecd_compile.specs.declared.refusal.Refusal.{Refusal}
-use Rattle.ecd_compile.specs.declared.refusal.Refusal.TheVariants.{NotUtf8, Lex, Parse, NotBuilt, OutOfMemory}
+use Rattle.ecd_compile.specs.declared.refusal.Refusal.TheVariants.{NotUtf8, Lex, Parse, Name, NotBuilt, OutOfMemory}
+use Rattle.ecd_names.specs.Breaks.{BreaksNone, IsFirst}
 use Rattle.ecd_compile.specs.Thin.{IsThin}
 
 -- the text is UTF-8, and its tokens spell the tree within 48 open brackets
@@ -39,10 +40,17 @@ pub record BreaksLexemes (text : List ℕ) (place rule : ℕ) : Type 0 where
   pub utf8 : IsUtf8 text
   pub first : FirstFault text place rule
 
--- a schema that is not compiled yet
+-- the first broken rule of N1 to N5
+pub record BreaksNames (text : List ℕ) (place rule : ℕ) : Type 0 where
+  pub tree : Tree
+  pub schema : IsSchema text tree
+  pub first : IsFirst tree.rules place rule
+
+-- a schema that is not compiled yet, though it breaks no rule
 pub record IsNotThin (text root : List ℕ) : Type 0 where
   pub tree : Tree
   pub schema : IsSchema text tree
+  pub sound : BreaksNone tree.rules
   pub other : (n : ℕ) → IsThin tree root n → ⊥
 
 -- what makes a schema be refused so. Each rules out the others, and that the schema is compiled.
@@ -50,6 +58,7 @@ abbrev pub HasCause : (text root : List ℕ) → Refusal → Type 0
 HasCause text root (NotUtf8 place) = IsNoText text place
 HasCause text root (Lex place rule) = BreaksLexemes text place rule
 HasCause text root (Parse place rule) = IsNoSchema text place rule
+HasCause text root (Name place rule) = BreaksNames text place rule
 HasCause text root NotBuilt = IsNotThin text root
 HasCause text root OutOfMemory = Unit {0}
 
@@ -58,6 +67,7 @@ abbrev pub IsTold : Refusal → Type 0
 IsTold (NotUtf8 place) = Unit {0}
 IsTold (Lex place rule) = Unit {0}
 IsTold (Parse place rule) = Unit {0}
+IsTold (Name place rule) = Unit {0}
 IsTold NotBuilt = Unit {0}
 IsTold OutOfMemory = ⊥
 
@@ -70,5 +80,6 @@ abbrev pub StandsWithin : ℕ → Refusal → Type 0
 StandsWithin whole (NotUtf8 place) = place ≤ whole
 StandsWithin whole (Lex place rule) = place ≤ whole
 StandsWithin whole (Parse place rule) = place ≤ whole
+StandsWithin whole (Name place rule) = place ≤ whole
 StandsWithin whole NotBuilt = Unit {0}
 StandsWithin whole OutOfMemory = Unit {0}

@@ -6,6 +6,7 @@ ghost use Rattle.ecd_syntax.specs.declared.tree.Tree.{Tree};
 ghost use Rattle.ecd_compile.specs.Reads.{IsCompiled};
 ghost use Rattle.ecd_compile.specs.Schema.{IsSchema, HasCause, IsTold, StandsWithin};
 ghost use Rattle.ecd_compile.specs.Thin.{IsThin};
+ghost use Rattle.ecd_names.specs.Breaks.{BreaksNone};
 ghost use Rattle.ecd_compile.specs.declared.refusal.Refusal.{Refusal};
 
 pub mod laws;
@@ -21,7 +22,9 @@ use ecd_cast::builder::Valid;
 use ecd_cprint::print;
 use ecd_lex::MOST_BYTES;
 use ecd_list::ByteList;
+use ecd_names::resolve;
 pub use refusal::Refusal;
+use refusal::of_names;
 use std::alloc::Global;
 
 /// A compiled schema.
@@ -43,7 +46,12 @@ fn compile_thin(alloc: Global, schema: &[u8], root: &str) -> Result<Compiled, Re
         Ok(tree) => tree,
         Err(refusal) => return Err(refusal),
     };
-    let Some(number) = thin_number(&tree, root) else {
+    let number = thin_number(&tree, root);
+    match resolve(alloc, tree) {
+        Ok(_) => {}
+        Err(fault) => return Err(of_names(fault)),
+    }
+    let Some(number) = number else {
         return Err(Refusal::NotBuilt);
     };
     let program = reader(alloc, number)?;
@@ -55,7 +63,7 @@ fn compile_thin(alloc: Global, schema: &[u8], root: &str) -> Result<Compiled, Re
 ///
 /// # Errors
 ///
-/// The first broken rule of T0, X1 to X6, P1 and P2 with its place. `NotBuilt` exactly where none is broken and the
+/// The first broken rule of T0, X1 to X6, P1, P2 and N1 to N5 with its place. `NotBuilt` exactly where none is broken and the
 /// schema is not the one rule `root = number`, with a letter a to z and a number from 0 to 23.
 pub fn compile(alloc: Global, schema: &[u8], root: &str, depth: u8) -> Result<Compiled, Refusal>
     requires shallow { depth ≤ 32 }
@@ -63,7 +71,7 @@ pub fn compile(alloc: Global, schema: &[u8], root: &str, depth: u8) -> Result<Co
 
     // A schema that is taken is compiled, and every schema that can be is.
     ensures compiled { IfOk result (λ c. IsCompiled schema.now root.now c.text c.program) }
-    ensures only_compiled { (tree : Tree) (number : ℕ) → IsSchema schema.now tree → IsThin tree root.now number → IfErr result (λ refusal. refusal ≡ Refusal.OutOfMemory) }
+    ensures only_compiled { (tree : Tree) (number : ℕ) → IsSchema schema.now tree → BreaksNone tree.rules → IsThin tree root.now number → IfErr result (λ refusal. refusal ≡ Refusal.OutOfMemory) }
 
     // A refusal has its cause, and each cause is answered.
     ensures refused { IfErr result (λ refusal. HasCause schema.now root.now refusal) }
@@ -86,6 +94,7 @@ mod tests {
     ) -> Result<(), Fail> {
         let lex = |place, rule| Some(Refusal::Lex { place, rule });
         let parse = |place, rule| Some(Refusal::Parse { place, rule });
+        let name = |place, rule| Some(Refusal::Name { place, rule });
         for (schema, root, refusal) in [
             ("x = 5", "x", None),
             ("x = 0x05 ; five", "x", None),
@@ -105,6 +114,9 @@ mod tests {
             ("", "x", parse(0, 1)),
             ("a = [int", "a", parse(8, 1)),
             ("x = 5\ny = [", "x", parse(11, 1)),
+            ("x = 5 y = z", "x", name(10, 2)),
+            ("x = 5 x = 5", "x", name(6, 1)),
+            ("a = int / uint / b", "a", name(17, 2)),
         ] {
             match compile(rt.alloc(), schema.as_bytes(), root, 0) {
                 Ok(compiled) => {
@@ -126,6 +138,7 @@ mod tests {
             (Refusal::NotUtf8 { place: 5 }, "rule T0 at byte 5"),
             (Refusal::Lex { place: 4, rule: 3 }, "rule X3 at byte 4"),
             (Refusal::Parse { place: 8, rule: 1 }, "rule P1 at byte 8"),
+            (Refusal::Name { place: 6, rule: 1 }, "rule N1 at byte 6"),
             (Refusal::NotBuilt, "not built"),
             (Refusal::OutOfMemory, "out of memory"),
         ] {

@@ -1,8 +1,9 @@
 ghost use Rattle.std.specs.Prelude.{◌≡◌};
-ghost use Rattle.ecd_compile.specs.Refusals.{of_lexemes_is, of_grammar_is};
+ghost use Rattle.ecd_compile.specs.Refusals.{of_lexemes_is, of_grammar_is, of_names_is};
 
 use ecd_lex::LexFault;
 use ecd_list::OutOfMemory;
+use ecd_names::NameFault;
 use ecd_parse::ParseFault;
 use thiserror::Error;
 
@@ -18,6 +19,9 @@ pub enum Refusal {
     /// P1 at the first unexpected token, or P2 at the 49th open bracket.
     #[error("rule P{rule} at byte {place}")]
     Parse { place: u32, rule: u8 },
+    /// The first broken rule of N1 to N5.
+    #[error("rule N{rule} at byte {place}")]
+    Name { place: u32, rule: u8 },
     /// The schema is not one that is compiled so far.
     #[error("not built")]
     NotBuilt,
@@ -53,5 +57,15 @@ pub fn of_grammar(fault: ParseFault) -> Refusal
         ParseFault::Unexpected { place } => Refusal::Parse { place, rule: 1 },
         ParseFault::TooNested { place } => Refusal::Parse { place, rule: 2 },
         ParseFault::OutOfMemory => Refusal::OutOfMemory,
+    }
+}
+
+/// A fault of the names as a refusal.
+pub fn of_names(fault: NameFault) -> Refusal
+    ensures { result ≡ of_names_is fault }
+{
+    match fault {
+        NameFault::At { place, rule } => Refusal::Name { place, rule },
+        NameFault::OutOfMemory => Refusal::OutOfMemory,
     }
 }

@@ -1,6 +1,8 @@
 //! From a schema's bytes to its tree.
 
 ghost use Rattle.std.specs.Prelude.{ℕ, List, ◌≡◌, ◌≤◌, IfOk, IfErr, length};
+ghost use Rattle.std.specs.List.{AllByRecursion};
+ghost use Rattle.ecd_uses.specs.Places.{IsRuleInside};
 ghost use Rattle.ecd_compile.specs.Schema.{IsSchema, HasCause, StandsWithin};
 
 use crate::refusal::{Refusal, of_grammar, of_lexemes};
@@ -12,6 +14,7 @@ use std::alloc::Global;
 fn tree_of(alloc: Global, text: &str) -> Result<Tree, Refusal>
     requires { length text.now ≤ MOST_BYTES }
     ensures tree { IfOk result (λ tree. IsSchema text.now tree) }
+    ensures inside { IfOk result (λ tree. AllByRecursion (IsRuleInside (length text.now)) tree.rules) }
     ensures refused { IfErr result (λ refusal. (root : List ℕ) → HasCause text.now root refusal) }
     ensures within { IfErr result (λ refusal. StandsWithin (length text.now) refusal) }
 {
@@ -30,6 +33,7 @@ fn tree_of(alloc: Global, text: &str) -> Result<Tree, Refusal>
 pub fn schema_tree(alloc: Global, schema: &[u8]) -> Result<Tree, Refusal>
     requires { length schema.now ≤ MOST_BYTES }
     ensures tree { IfOk result (λ tree. IsSchema schema.now tree) }
+    ensures inside { IfOk result (λ tree. AllByRecursion (IsRuleInside (length schema.now)) tree.rules) }
     ensures refused { IfErr result (λ refusal. (root : List ℕ) → HasCause schema.now root refusal) }
     ensures within { IfErr result (λ refusal. StandsWithin (length schema.now) refusal) }
 {

@@ -10,6 +10,7 @@ use Rattle.ecd_compile.specs.declared.refusal.Refusal.TheVariants.{OutOfMemory}
 use Rattle.ecd_syntax.specs.declared.tree.Tree.{Tree}
 use Rattle.ecd_compile.specs.Schema.{IsSchema}
 use Rattle.ecd_compile.specs.Thin.{IsThin}
+use Rattle.ecd_names.specs.Breaks.{BreaksNone}
 use Rattle.ecd_compile.specs.Reads.{IsCompiled}
 use Rattle.ecd_compile.proofs.Causes.{thin_once}
 use Rattle.ecd_reader.specs.Takes.{BeginsWith, Takes}
@@ -76,6 +77,7 @@ judged case bytes text program taken within digits compiled takes = (
     tree = compiled.tree;
     number = compiled.number;
     parsed = compiled.parsed;
+    sound = compiled.sound;
     thin = compiled.thin;
     takes = subst (λ (n : ℕ). Takes compiled.number bytes n) (bool_equal taken case.consumed e) takes;
   }),
@@ -90,5 +92,5 @@ judged case bytes text program taken within digits compiled takes = (
 pub no_bytes : (case : Case) → ((bytes : List ℕ) → decode_of case.bytes.now ≢ Ok bytes) → (false ≡ true) ↔ Passes case
 no_bytes case none = ((λ (e : false ≡ true). cc), (λ (p : Passes case). absurd (none p.bytes p.digits)))
 
-pub no_schema : (case : Case) → ((tree : Tree) (number : ℕ) → IsSchema case.schema.now tree → IsThin tree case.root.now number → ⊥) → (false ≡ true) ↔ Passes case
-no_schema case none = ((λ (e : false ≡ true). cc), (λ (p : Passes case). absurd (none p.tree p.number p.parsed p.thin)))
+pub no_schema : (case : Case) → ((tree : Tree) (number : ℕ) → IsSchema case.schema.now tree → BreaksNone tree.rules → IsThin tree case.root.now number → ⊥) → (false ≡ true) ↔ Passes case
+no_schema case none = ((λ (e : false ≡ true). cc), (λ (p : Passes case). absurd (none p.tree p.number p.parsed p.sound p.thin)))

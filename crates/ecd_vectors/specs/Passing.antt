@@ -5,6 +5,7 @@ use Rattle.hex.specs.Hex.{decode_of}
 use Rattle.ecd_syntax.specs.declared.tree.Tree.{Tree}
 use Rattle.ecd_compile.specs.Schema.{IsSchema}
 use Rattle.ecd_compile.specs.Thin.{IsThin}
+use Rattle.ecd_names.specs.Breaks.{BreaksNone}
 use Rattle.ecd_reader.specs.Takes.{Takes}
 use Rattle.ecd_vectors.specs.declared.case.Case.{Case}
 use Rattle.ecd_vectors.specs.declared.report.Report.{Report}
@@ -23,6 +24,7 @@ pub record Passes (case : Case) : Type 0 where
   pub tree : Tree
   pub number : ℕ
   pub parsed : IsSchema case.schema.now tree
+  pub sound : BreaksNone tree.rules
   pub thin : IsThin tree case.root.now number
   pub takes : Takes number bytes case.consumed
 
