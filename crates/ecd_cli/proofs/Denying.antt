@@ -7,7 +7,8 @@ use Rattle.ecd_compile.proofs.Causes.{one_cause, never_refused, thin_once}
 use Rattle.ecd_cli.proofs.Calling.{not_run_once, not_run_or_run}
 use Rattle.ecd_cli.specs.Asked.{Asked, SchemaAsked, check, compile, read, write, copy, run, sample}
 use Rattle.ecd_cli.specs.Outcomes.{Outcome, NoEncoding, NotBuilt}
-use Rattle.ecd_cli.specs.Causes.{IsRefused, IsCompiledTo, IsAnyNumber, IsNumber, BeginsWith, BeginWithItem, BeginWithNone, IsDenied, IsAccepted, IsTextOver, outcome_of_refusal}
+use Rattle.ecd_reader.specs.Takes.{BeginsWith}
+use Rattle.ecd_cli.specs.Causes.{IsRefused, IsCompiledTo, IsAnyNumber, IsNumber, BeginWithItem, BeginWithNone, IsDenied, IsAccepted, IsTextOver, outcome_of_refusal}
 
 refused_once : (schema root : List ℕ) (o p : Outcome) → IsRefused schema root o → IsRefused schema root p → o ≡ p
 refused_once schema root o p a b =
