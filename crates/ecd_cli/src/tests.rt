@@ -213,6 +213,24 @@ fn schemas_are_taken_or_refused_with_rule_and_place(rt: HostRuntime) -> Result<(
         ),
         ("check s a 0", "", schema, "schema 1:1 byte 0 rule P1\n"),
         (
+            "check s a 0",
+            "a = int / uint / b",
+            schema,
+            "schema 1:18 byte 17 rule N2\n",
+        ),
+        (
+            "compile s a 0",
+            "a = 1\na = 2",
+            schema,
+            "schema 2:1 byte 6 rule N1\n",
+        ),
+        (
+            "check s a 0",
+            "a = 5 b = [* b]",
+            schema,
+            "schema 1:14 byte 13 rule N3\n",
+        ),
+        (
             "compile s x 0",
             "x = 5\ny = [",
             schema,
