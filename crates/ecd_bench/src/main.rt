@@ -1,19 +1,24 @@
 //! Times the reading, writing and checking of a large data item (RFC 8949), and the reading of large schemas (RFC 8610): the
 //! word after the program's name says which.
-//! Without a word it does nothing.
+//! The word `runtime` prints the fixed functions of emitted files. Without a word it does nothing.
 #![tactic(auto)]
 
 mod measure;
+mod runtime;
 mod sample;
 
 use anyhow::Result;
 use measure::measure;
+use runtime::print_runtime;
 use std::env;
 
 fn main(rt: HostRuntime) -> Result<()> {
     let mut words = env::args(&rt)?.skip(1);
     match words.next() {
         None => Ok(()),
-        Some(word) => measure(rt.alloc(), &rt, word.as_str()),
+        Some(word) => match word.as_str() {
+            "runtime" => print_runtime(rt.alloc(), &rt),
+            other => measure(rt.alloc(), &rt, other),
+        },
     }
 }

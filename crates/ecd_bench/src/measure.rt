@@ -1,9 +1,10 @@
 //! The measurements.
 
-use crate::sample::{array_bytes, counted_map, repeated};
+use crate::sample::{array_bytes, chained_names, counted_map, repeated};
 use anyhow::{Result, bail, ensure};
 use ecd_item::{is_valid, read_item, write_item};
 use ecd_lex::{MOST_BYTES, lex};
+use ecd_names::resolve;
 use ecd_parse::parse;
 use std::alloc::Global;
 use std::rt::Clock;
@@ -14,6 +15,9 @@ const ARRAY_COUNT: u32 = 16_000_000;
 
 /// The pairs of the map that is checked.
 const MAP_COUNT: u32 = 100_000;
+
+/// The rules of the schema whose names are resolved.
+const NAME_COUNT: u32 = 20_000;
 
 /// Makes the measurement of that name, and prints its line.
 ///
@@ -38,6 +42,14 @@ pub fn measure(alloc: Global, rt: &(impl Clock + Print), word: &str) -> Result<(
             time_schema(alloc, rt, "a = \"", "x", "\"")?,
             "0.3",
         ),
+        "chained_names" => {
+            let text = chained_names(alloc, NAME_COUNT)?;
+            print_line(rt, word, time_names(alloc, rt, text.as_str())?, "1")
+        }
+        "many_bodies" => {
+            let text = repeated(alloc, "", "a /= 5\n", "")?;
+            print_line(rt, word, time_names(alloc, rt, text.as_str())?, "1")
+        }
         _ => bail!("no such measurement: {word}"),
     }
 }
@@ -88,6 +100,18 @@ fn time_schema(
     let tree = parse(alloc, &tokens, text.len() as u32)?;
     let took = start.elapsed(rt)?;
     ensure!(!tree.rules.is_empty(), "the schema has no rule");
+    Ok(took)
+}
+
+/// How long the names of a schema take to be resolved.
+fn time_names(alloc: Global, rt: &impl Clock, text: &str) -> Result<Duration> {
+    ensure!(text.len() <= MOST_BYTES, "the schema is too long");
+    let tokens = lex(alloc, text)?;
+    let tree = parse(alloc, &tokens, text.len() as u32)?;
+    let start = Instant::now(rt)?;
+    let names = resolve(alloc, tree)?;
+    let took = start.elapsed(rt)?;
+    ensure!(names.plugs("a") > 0, "there is no rule a");
     Ok(took)
 }
 

@@ -59,3 +59,19 @@ pub fn repeated(alloc: Global, first: &str, piece: &str, last: &str) -> Result<S
     text.push_str(last)?;
     Ok(text)
 }
+
+/// A schema of so many rules and one more, each of which uses the one behind it.
+///
+/// # Errors
+///
+/// `AllocError` where memory runs out.
+pub fn chained_names(alloc: Global, count: u32) -> Result<String, AllocError> {
+    let mut text = String::new(alloc);
+    text.push_str("a=")?;
+    for number in 0..count {
+        let rule = format!(in alloc; "n{number:x}\nn{number:x}=")?;
+        text.push_str(rule.as_str())?;
+    }
+    text.push_str("5\n")?;
+    Ok(text)
+}
