@@ -1,0 +1,4 @@
+pub mod Breaks
+pub mod First
+pub mod Edges
+pub mod Laws

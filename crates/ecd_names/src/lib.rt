@@ -1,0 +1,8 @@
+//! The names of a schema: the first of the rules N1 to N5 that is broken, and what each name stands for.
+#![tactic(auto)]
+
+mod fault;
+mod first;
+
+pub use ecd_list::OutOfMemory;
+pub use fault::NameFault;
