@@ -1,1 +1,4 @@
 mod Seeing
+mod Positions
+mod Naming
+mod Repeats

@@ -1,11 +1,12 @@
 -- Faults that have been taken in.
 use Rattle.std.proofs.Common.{ℕ, ◌+◌, ◌≡◌, ◌<◌, ◌≤◌, ◌⊎◌, inl, inr, Bool, true, false, List, [], ◌∷◌, ◌++◌, length, take, get_or, refl, ap, sym, ◌∙◌, subst, arith}
-use Rattle.std.specs.Prelude.{Option, Some, None}
+use Rattle.std.specs.Prelude.{Option, Some, None, nat_lt}
 use Rattle.std.specs.List.{Contains}
+use Rattle.std.proofs.lemmas.Bool.Decides.{nat_tests}
 use Rattle.std.proofs.lemmas.List.{take_more}
 use Rattle.std.proofs.lemmas.List.Elements.{Contains-push_cases, Contains-append_left, Contains-push}
 use Rattle.ecd_names.specs.declared.first.Broken.{Broken}
-use Rattle.ecd_names.specs.First.{Faults, IsNoLater, Sees, When, EachOf}
+use Rattle.ecd_names.specs.First.{Faults, IsNoLater, Sees, When, EachOf, AnyBelow}
 
 -- ---- the order
 
@@ -22,6 +23,13 @@ passes_on : (mid new : Option Broken) → ((b : Broken) → mid ≡ Some b → I
 passes_on None new kept place number h = absurd h
 passes_on (Some b) None kept place number h = absurd (kept b refl)
 passes_on (Some b) (Some c) kept place number h = no_later_then b c place number (kept b refl) h
+
+below_or_at : (k i : ℕ) → k < i + 1 → (k < i) ⊎ (k ≡ i)
+below_or_at k i h = by_test (nat_lt k i) refl
+  where
+    by_test : (b : Bool) → nat_lt k i ≡ b → (k < i) ⊎ (k ≡ i)
+    by_test true e = inl (grind (arith, nat_tests))
+    by_test false e = inr (grind (arith, nat_tests))
 
 -- ---- one after the other
 
@@ -92,6 +100,27 @@ module _ {A : Type 0} (faults : A → Faults) (old mid new : Option Broken) (xs 
           by_place : Contains (take i xs) w.one ⊎ (x ≡ w.one) → Either (EachOf faults (take i xs)) (faults x) place number
           by_place (inl c) = inl (record { one = w.one; among = c; broken = w.broken })
           by_place (inr s) = inr (subst (λ (y : A). faults y place number) (sym s) w.broken)
+
+-- ---- the faults of each number
+
+module _ (faults : ℕ → Faults) where
+  pub sees_none_below : (first : Option Broken) → Sees first first (AnyBelow faults 0)
+  sees_none_below first = sees_same first first (λ _ _. ⊥) (AnyBelow faults 0) (λ place number h. absurd h) (λ place number w. let none : ⊥ = omega (arith, w.below) in none) (sees_nothing first)
+
+  module _ (old mid new : Option Broken) (i : ℕ) where
+    pub sees_one_more : Sees old mid (AnyBelow faults i) → Sees mid new (faults i) → Sees old new (AnyBelow faults (i + 1))
+    sees_one_more s t = sees_same old new (Either (AnyBelow faults i) (faults i)) (AnyBelow faults (i + 1)) to from (sees_then old mid new (AnyBelow faults i) (faults i) s t)
+      where
+        to : (place number : ℕ) → Either (AnyBelow faults i) (faults i) place number → AnyBelow faults (i + 1) place number
+        to place number (inl w) = record { index = w.index; below = omega (arith, w.below); broken = w.broken }
+        to place number (inr b) = record { index = i; below = omega arith; broken = b }
+
+        from : (place number : ℕ) → AnyBelow faults (i + 1) place number → Either (AnyBelow faults i) (faults i) place number
+        from place number w = by_order (below_or_at w.index i w.below)
+          where
+            by_order : (w.index < i) ⊎ (w.index ≡ i) → Either (AnyBelow faults i) (faults i) place number
+            by_order (inl h) = inl (record { index = w.index; below = h; broken = w.broken })
+            by_order (inr e) = inr (subst (λ (k : ℕ). faults k place number) e w.broken)
 
 -- ---- tests
 

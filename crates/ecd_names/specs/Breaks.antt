@@ -24,11 +24,10 @@ pub data IsDuplicate (before : List Rule) (rule : Rule) : Type 0 where
   OfPrelude : IsOfPrelude rule.name.text → IsDuplicate before rule
   Again : rule.assign ≡ Define → is_in_text before rule.name.text ≡ true → IsDuplicate before rule
 
--- a parameter has the name of one before it in the same rule
-pub record IsRepeated (rule : Rule) (param : Name) : Type 0 where
-  pub number : ℕ
-  pub stands : slice_get rule.params number ≡ Some param
-  pub named_before : is_parameter (take number rule.params) param.text ≡ true
+-- the parameter of this number has the name of one before it in the same rule
+pub record IsRepeated (params : List Name) (index : ℕ) (param : Name) : Type 0 where
+  pub stands : slice_get params index ≡ Some param
+  pub named_before : is_parameter (take index params) param.text ≡ true
 
 -- ---- N2, a name is undefined
 
@@ -97,7 +96,7 @@ pub data NameBreaks (text before : List Rule) (rule : Rule) (number : ℕ) : Typ
 -- what a rule of the text breaks, behind the rules before it: at its name, at a parameter, or in its body
 pub data RuleBreaks (text before : List Rule) (rule : Rule) (place number : ℕ) : Type 0 where
   AtName : place ≡ rule.name.at → NameBreaks text before rule number → RuleBreaks text before rule place number
-  AtParameter : (param : Name) → place ≡ param.at → number ≡ 1 → IsRepeated rule param → RuleBreaks text before rule place number
+  AtParameter : (index : ℕ) (param : Name) → place ≡ param.at → number ≡ 1 → IsRepeated rule.params index param → RuleBreaks text before rule place number
   AtSite : (site : Site) → Contains (sites_of rule) site → SiteBreaks text rule site place number → RuleBreaks text before rule place number
 
 -- The text breaks the rule of names of this number at the place.

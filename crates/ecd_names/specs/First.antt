@@ -29,3 +29,9 @@ pub record EachOf {A : Type 0} (faults : A → Faults) (xs : List A) (place numb
   pub one : A
   pub among : Contains xs one
   pub broken : faults one place number
+
+-- the faults of each number below this one
+pub record AnyBelow (faults : ℕ → Faults) (end : ℕ) (place number : ℕ) : Type 0 where
+  pub index : ℕ
+  pub below : index < end
+  pub broken : faults index place number

@@ -1,4 +1,5 @@
 pub mod Breaks
 pub mod First
+pub mod Parameters
 pub mod Edges
 pub mod Laws

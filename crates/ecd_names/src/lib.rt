@@ -3,6 +3,7 @@
 
 mod fault;
 mod first;
+mod parameters;
 
 pub use ecd_list::OutOfMemory;
 pub use fault::NameFault;
