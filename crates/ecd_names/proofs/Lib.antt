@@ -2,3 +2,8 @@ mod Seeing
 mod Positions
 mod Naming
 mod Repeats
+mod Walking
+mod Scoping
+mod Linking
+mod Nodes
+mod Graphs

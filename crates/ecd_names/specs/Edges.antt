@@ -14,17 +14,17 @@ edge_between (Some a) (Some b) = record { from = a; to = b } ∷ []
 edge_between (Some a) None = []
 edge_between None to = []
 
--- a use of a name leads to its first rule; a parameter leads nowhere
-abbrev pub site_edges : List Rule → Rule → Site → List Edge
-site_edges text rule (Use name args asked) = if is_parameter rule.params name.text then [] else edge_between (first_of text rule.name.text) (first_of text name.text)
-site_edges text rule (Parenthesis at lead) = []
+-- a use of a name leads to the node of the name; a parameter leads nowhere
+abbrev pub site_edges : (List ℕ → Option ℕ) → Rule → Site → List Edge
+site_edges node rule (Use name args asked) = if is_parameter rule.params name.text then [] else edge_between (node rule.name.text) (node name.text)
+site_edges node rule (Parenthesis at lead) = []
 
-abbrev pub rule_edges : List Rule → Rule → List Edge
-rule_edges text rule = flat_map (site_edges text rule) (sites_of rule)
+abbrev pub rule_edges : (List ℕ → Option ℕ) → Rule → List Edge
+rule_edges node rule = flat_map (site_edges node rule) (sites_of rule)
 
 -- the uses of all rules
 abbrev pub edges_of : List Rule → List Edge
-edges_of text = flat_map (rule_edges text) (all_rules text)
+edges_of text = flat_map (rule_edges (first_of text)) (all_rules text)
 
 -- nodes have one number where they lead to each other, and no node leads to one of a greater number
 pub record AreLevels (text : List Rule) (levels : List ℕ) : Type 0 where
