@@ -7,3 +7,4 @@ mod Scoping
 mod Linking
 mod Nodes
 mod Graphs
+mod Leveling

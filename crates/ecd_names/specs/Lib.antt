@@ -3,4 +3,5 @@ pub mod First
 pub mod Parameters
 pub mod Scopes
 pub mod Edges
+pub mod Scenes
 pub mod Laws

@@ -94,5 +94,6 @@ pub(crate) fn levels(
     ensures { IfOk result (λ levels. AreLevels table.now levels.items) }
 {
     let edges = edges(alloc, table, scopes)?;
-    components(alloc, table.rule_count(), &edges)
+    let levels = components(alloc, table.rule_count(), &edges)?;
+    Ok(levels)
 }

@@ -4,8 +4,12 @@
 mod edges;
 mod fault;
 mod first;
+mod judge_name;
+mod judge_site;
 mod parameters;
+mod scene;
 mod scope;
+mod socket;
 
 pub use ecd_list::OutOfMemory;
 pub use fault::NameFault;

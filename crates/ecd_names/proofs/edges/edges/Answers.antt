@@ -10,6 +10,9 @@ use Rattle.ecd_names.proofs.edges.edges.Goals as goal
 pub add_rule-requires : goal.add_rule-requires
 add_rule-requires c = scope_at (all_rules c.args.table.now) c.loop-number.number c.in-Some.rule.now c.args.scopes.now c.index-scopes-number.result c.requires (sym c.in-Some.ensures) c.index-scopes-number.is
 
+pub bounds-scopes-number : goal.bounds-scopes-number
+bounds-scopes-number c = omega (arith, scopes-each (all_rules c.args.table.now) c.args.scopes.now c.requires, c.rule_count-number-end.ensures)
+
 pub unreachable-requires : goal.unreachable-requires
 unreachable-requires c = no_element (all_rules c.args.table.now) c.loop-number.number (omega (arith, c.rule_count-number-end.ensures)) c.in-None.ensures
 
