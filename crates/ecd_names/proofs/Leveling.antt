@@ -1,0 +1,87 @@
+-- Levels of names, and where names lead back.
+use Rattle.std.proofs.Common.{ℕ, zero, suc, ◌≡◌, ◌≢◌, ◌<◌, ◌≤◌, ◌↔◌, List, [], ◌∷◌, length, get_or, refl, ap, sym, ◌∙◌, subst, arith}
+use Rattle.std.specs.Prelude.{Option, Some, None, slice_get, flat_map}
+use Rattle.std.specs.List.{Contains}
+use Rattle.ecd_graph.specs.declared.edge.Edge.{Edge}
+use Rattle.ecd_graph.specs.Graphs.{IsEdge, Reaches, AreAmong, NumbersComponents, AreInOrder}
+use Rattle.ecd_syntax.specs.declared.tree.Rule.{Rule}
+use Rattle.ecd_rules.specs.Named.{all_rules, first_of}
+use Rattle.ecd_rules.specs.Leading.{Uses, LeadsTo, IsRanked}
+use Rattle.ecd_names.specs.Edges.{rule_edges, edges_of, AreLevels}
+use Rattle.ecd_names.proofs.Walking.{some_same, element_at, at_element}
+use Rattle.ecd_names.proofs.Nodes.{node-named, node-below, node-of}
+use Rattle.ecd_names.proofs.Graphs.{AreNodes, IsUseEdge, use-edge, edge-use, leads-reaches, reaches-leads, node-leads}
+
+module _ (text : List Rule) where
+  one-node : (a b : List ℕ) (n : ℕ) → first_of text a ≡ Some n → first_of text b ≡ Some n → a ≡ b
+  one-node a b n e f =
+      let x = node-named (all_rules text) a n e in
+      let y = node-named (all_rules text) b n f in
+      sym x.2 ∙ (ap (λ (r : Rule). r.name.text) (some_same (sym x.1 ∙ y.1)) ∙ y.2)
+
+  node-starts : (a b : List ℕ) → Uses text a b → (n : ℕ) × (first_of text a ≡ Some n)
+  node-starts a b u = let n = node-of (all_rules text) u.rule u.among in (n.0, ap (first_of text) (sym u.named) ∙ n.1)
+
+  node-edged : (a b : List ℕ) (x y : ℕ) → Uses text a b → first_of text a ≡ Some x → first_of text b ≡ Some y → IsEdge (edges_of text) x y
+  node-edged a b x y u e f =
+      at_element (edges_of text) (record { from = x; to = y })
+      (edge-use (first_of text) (all_rules text) u.rule u.name u.args u.asked x y u.among u.used (ap (first_of text) u.named ∙ e) (ap (first_of text) u.is ∙ f))
+
+  node-used : (x y : ℕ) → IsEdge (edges_of text) x y → (a : List ℕ) × (b : List ℕ) × Uses text a b × (first_of text a ≡ Some x) × (first_of text b ≡ Some y)
+  node-used x y e =
+      let u = use-edge (first_of text) (all_rules text) x y (element_at (edges_of text) e.0 (record { from = x; to = y }) e.1) in
+      (u.rule.name.text, u.name.text, record { rule = u.rule; among = u.among; named = refl; name = u.name; args = u.args; asked = u.asked; used = u.used; is = refl }, u.starts, u.ends)
+
+  pub are-nodes : AreNodes text (edges_of text) (first_of text)
+  are-nodes = record { one = one-node; starts = node-starts; edged = node-edged; used = node-used }
+
+  pub ends-among : AreAmong (length (all_rules text)) (edges_of text)
+  ends-among e x stands =
+      let u = use-edge (first_of text) (all_rules text) x.from x.to (element_at (edges_of text) e x stands) in
+      (node-below (all_rules text) u.rule.name.text x.from u.starts, node-below (all_rules text) u.name.text x.to u.ends)
+
+module _ (text : List Rule) (levels : List ℕ) (are : AreLevels text levels) where
+  use-reaches : (a b : List ℕ) (x y : ℕ) → Uses text a b → first_of text a ≡ Some x → first_of text b ≡ Some y → Reaches (edges_of text) x y
+  use-reaches a b x y u e f = record { steps = 1; walk = (y, node-edged text a b x y u e f, refl) }
+
+  -- a use leads back where both names have one level
+  pub level-back : (a b : List ℕ) (x y : ℕ) → Uses text a b → first_of text a ≡ Some x → first_of text b ≡ Some y → (get_or levels x 0 ≡ get_or levels y 0) ↔ LeadsTo text b a
+  level-back a b x y u e f =
+      let both = are.components x y (node-below (all_rules text) a x e) (node-below (all_rules text) b y f) in
+      (λ same. leads-reaches text (edges_of text) (first_of text) (are-nodes text) y x b a f e (both.0 same).1,
+       λ back. both.1 (use-reaches a b x y u e f, reaches-leads text (edges_of text) (first_of text) (are-nodes text) y x b a f e back))
+
+  -- what has no rule leads nowhere
+  pub none-back : (a b : List ℕ) → Uses text a b → first_of text b ≡ None → LeadsTo text b a → ⊥
+  none-back a b u e back =
+      let x = node-starts text a b u in
+      let y = node-leads text (edges_of text) (first_of text) (are-nodes text) b a x.0 x.1 back in
+      let bad : None ≡ Some y.0 = sym e ∙ y.1 in absurd cc
+
+  abbrev rank : Option ℕ → ℕ
+  rank None = 0
+  rank (Some n) = suc (get_or levels n 0)
+
+  -- where no use leads back, the levels are a ranking
+  pub levels-rank : ((a b : List ℕ) → Uses text a b → LeadsTo text b a → ⊥) → IsRanked text
+  levels-rank never = record { rank = λ name. rank (first_of text name); falls = falls }
+    where
+      by_node : (a b : List ℕ) (x : ℕ) (o : Option ℕ) → Uses text a b → first_of text a ≡ Some x → first_of text b ≡ o → rank o < suc (get_or levels x 0)
+      by_node a b x None u e f = omega arith
+      by_node a b x (Some y) u e f =
+          let le = are.order x y (node-below (all_rules text) a x e) (node-below (all_rules text) b y f) (use-reaches a b x y u e f) in
+          let apart : get_or levels x 0 ≢ get_or levels y 0 = λ same. never a b u ((level-back a b x y u e f).0 same) in
+          omega (arith, le, apart)
+
+      falls : (a b : List ℕ) → Uses text a b → rank (first_of text b) < rank (first_of text a)
+      falls a b u =
+          let x = node-starts text a b u in
+          subst (λ (o : Option ℕ). rank (first_of text b) < rank o) (sym x.1) (by_node a b x.0 (first_of text b) u x.1 refl)
+
+-- the numbers of components are levels
+pub are-levels : (text : List Rule) (count : ℕ) (edges : List Edge) (numbers : List ℕ) → count ≡ length (all_rules text) → edges ≡ edges_of text → length numbers ≡ count → NumbersComponents count edges numbers → AreInOrder count edges numbers → AreLevels text numbers
+are-levels text count edges numbers c e l components order = record {
+  each = l ∙ c;
+  components = subst (λ (n : ℕ). NumbersComponents n (edges_of text) numbers) c (subst (λ (g : List Edge). NumbersComponents count g numbers) e components);
+  order = subst (λ (n : ℕ). AreInOrder n (edges_of text) numbers) c (subst (λ (g : List Edge). AreInOrder count g numbers) e order);
+}

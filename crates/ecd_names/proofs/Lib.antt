@@ -1,0 +1,10 @@
+mod Seeing
+mod Positions
+mod Naming
+mod Repeats
+mod Walking
+mod Scoping
+mod Linking
+mod Nodes
+mod Graphs
+mod Leveling

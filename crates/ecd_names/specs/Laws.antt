@@ -1,0 +1,17 @@
+-- What holds of the rules of names.
+use Rattle.std.specs.Prelude.{ℕ, ◌≡◌, List}
+use Rattle.ecd_syntax.specs.declared.tree.Rule.{Rule}
+use Rattle.ecd_rules.specs.Leading.{IsRanked}
+use Rattle.ecd_names.specs.Breaks.{Breaks, BreaksNone, IsFirst}
+
+-- a text has at most one first broken rule
+abbrev pub HasOneFirst : Type 0
+HasOneFirst = (text : List Rule) (place number other_place other : ℕ) → IsFirst text place number → IsFirst text other_place other → (place ≡ other_place) × (number ≡ other)
+
+-- where none is broken, none is first
+abbrev pub NoneIsFirst : Type 0
+NoneIsFirst = (text : List Rule) (place number : ℕ) → BreaksNone text → IsFirst text place number → ⊥
+
+-- where names have a ranking, no use leads back
+abbrev pub RankedBreaksNoThird : Type 0
+RankedBreaksNoThird = (text : List Rule) (place : ℕ) → IsRanked text → Breaks text place 3 → ⊥

@@ -1,0 +1,7 @@
+pub mod Breaks
+pub mod First
+pub mod Parameters
+pub mod Scopes
+pub mod Edges
+pub mod Scenes
+pub mod Laws

@@ -1,0 +1,113 @@
+//! A rule that is judged, and what its names are.
+
+ghost use Rattle.std.specs.Prelude.{◌≡◌, ◌↔◌, true, false};
+ghost use Rattle.ecd_rules.specs.Named.{is_parameter as parameter};
+ghost use Rattle.ecd_rules.specs.Kinds.{LeadsToGroup, IsGroup};
+ghost use Rattle.ecd_rules.specs.Leading.{Uses};
+ghost use Rattle.ecd_names.specs.Breaks.{IsUndefined, IsRecursive, arity_in, IsGroupIn, IsOtherKind};
+ghost use Rattle.ecd_names.specs.Scenes.{IsScene, HaveOneLevel};
+
+use crate::scope::Scope;
+use crate::socket::is_socket;
+use ecd_rules::RuleTable;
+use ecd_syntax::Rule;
+use ecd_uses::{Asked, Lead};
+
+/// A rule of the text that is judged, with what it is judged by.
+#[derive(Clone, Copy)]
+pub(crate) struct Scene<'a> {
+    pub(crate) table: &'a RuleTable,
+    /// The level of each name, under the number of its first rule.
+    pub(crate) levels: &'a [u32],
+    pub(crate) rule: &'a Rule,
+    pub(crate) scope: &'a Scope,
+    /// The number of the prelude's rules, which stand before those of the text.
+    pub(crate) prelude: usize,
+    /// The rule's number in the text.
+    pub(crate) index: usize,
+}
+
+impl<'a> Scene<'a> {
+    /// Whether the name is a parameter of the rule.
+    fn is_parameter(&self, name: &[u8]) -> bool
+        requires { IsScene self.now }
+        ensures { result ≡ parameter self.now.rule.now.params name.now }
+    {
+        self.scope.parameters.has(name)
+    }
+
+    /// N2: whether nothing defines the name.
+    pub(crate) fn is_undefined(&self, name: &[u8]) -> bool
+        requires { IsScene self.now }
+        ensures { (result ≡ true) ↔ IsUndefined self.now.table.now self.now.rule.now name.now }
+    {
+        !self.is_parameter(name) && !is_socket(name) && !self.table.is_defined(name)
+    }
+
+    /// Whether both names have rules, of one level.
+    fn have_one_level(&self, a: &[u8], b: &[u8]) -> bool
+        requires { IsScene self.now }
+        ensures { (result ≡ true) ↔ HaveOneLevel self.now.table.now self.now.levels.now a.now b.now }
+    {
+        match self.table.first(a) {
+            Some(first) => match self.table.first(b) {
+                Some(second) => self.levels[first as usize] == self.levels[second as usize],
+                None => false,
+            },
+            None => false,
+        }
+    }
+
+    /// N3: whether the name, which the rule uses, leads back to the rule's name.
+    pub(crate) fn is_recursive(&self, name: &[u8]) -> bool
+        requires scene { IsScene self.now }
+        requires used { parameter self.now.rule.now.params name.now ≡ false → Uses self.now.table.now self.now.rule.now.name.text name.now }
+        ensures { (result ≡ true) ↔ IsRecursive self.now.table.now self.now.rule.now name.now }
+    {
+        !self.is_parameter(name) && self.have_one_level(self.rule.name.text.as_slice(), name)
+    }
+
+    /// N4: the number of arguments that the name takes.
+    pub(crate) fn arity(&self, name: &[u8]) -> usize
+        requires { IsScene self.now }
+        ensures { result ≡ arity_in self.now.table.now self.now.rule.now name.now }
+    {
+        if self.is_parameter(name) {
+            0
+        } else {
+            self.table.arity(name)
+        }
+    }
+
+    /// Whether the name is a group here.
+    fn is_group(&self, name: &[u8]) -> bool
+        requires { IsScene self.now }
+        ensures { (result ≡ true) ↔ IsGroupIn self.now.table.now self.now.rule.now name.now }
+    {
+        !self.is_parameter(name) && self.table.is_group(name)
+    }
+
+    /// N5: whether the name is of another kind than is asked for.
+    pub(crate) fn is_other_kind(&self, name: &[u8], asked: Asked) -> bool
+        requires { IsScene self.now }
+        ensures { (result ≡ true) ↔ IsOtherKind self.now.table.now self.now.rule.now name.now asked }
+    {
+        match asked {
+            Asked::Anything => false,
+            Asked::AType => self.is_group(name),
+            Asked::AGroup => !self.is_group(name),
+        }
+    }
+
+    /// Whether what has this lead is a group.
+    pub(crate) fn leads_to_group(&self, lead: &Lead) -> bool
+        requires { IsScene self.now }
+        ensures { (result ≡ true) ↔ LeadsToGroup (IsGroup self.now.table.now) self.now.rule.now.params lead.now }
+    {
+        match lead {
+            Lead::Group => true,
+            Lead::Type => false,
+            Lead::Named(name) => self.is_group(name.text.as_slice()),
+        }
+    }
+}

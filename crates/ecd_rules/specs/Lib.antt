@@ -1,0 +1,4 @@
+pub mod Named
+pub mod Kinds
+pub mod Leading
+pub mod Laws

