@@ -8,3 +8,5 @@ mod Linking
 mod Nodes
 mod Graphs
 mod Leveling
+mod Duplicates
+mod Judging
