@@ -1,1 +1,2 @@
 mod Ranks
+mod Adding

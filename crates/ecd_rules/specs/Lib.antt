@@ -2,3 +2,4 @@ pub mod Named
 pub mod Kinds
 pub mod Leading
 pub mod Laws
+pub mod Numbers

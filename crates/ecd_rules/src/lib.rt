@@ -2,6 +2,7 @@
 #![tactic(auto)]
 
 pub mod laws;
+mod numbers;
 mod table;
 
 pub use ecd_list::OutOfMemory;
