@@ -1,2 +1,4 @@
 mod Ranks
 mod Adding
+mod Numbering
+mod Gathering

@@ -3,3 +3,5 @@ pub mod Kinds
 pub mod Leading
 pub mod Laws
 pub mod Numbers
+pub mod Causes
+pub mod Tables

@@ -2,6 +2,7 @@
 #![tactic(auto)]
 
 pub mod laws;
+mod kinds;
 mod numbers;
 mod table;
 

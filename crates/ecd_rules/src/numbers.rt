@@ -1,9 +1,10 @@
 //! The numbers of the rules of each name.
 
-ghost use Rattle.std.specs.Prelude.{◌≡◌, ℕ, List as ListOf, OnOk};
-ghost use Rattle.ecd_rules.specs.Numbers.{numbers_in, with_number};
+ghost use Rattle.std.specs.Prelude.{◌≡◌, ◌+◌, ◌++◌, ℕ, List as ListOf, IfOk, OnOk, length};
+ghost use Rattle.ecd_rules.specs.Numbers.{numbers_in, first_in, with_number, numbers_from, IsNumbered};
 
 use ecd_list::{List, OutOfMemory};
+use ecd_syntax::Rule;
 use indexmap::IndexMap;
 use std::alloc::Global;
 
@@ -23,8 +24,15 @@ pub(crate) fn numbers_at<'a>(map: &'a NumberMap, name: &[u8]) -> &'a [u32]
     }
 }
 
+/// The first number of a name.
+pub(crate) fn first_number(map: &NumberMap, name: &[u8]) -> Option<u32>
+    ensures { result ≡ first_in map.now.entries name.now }
+{
+    numbers_at(map, name).first().copied()
+}
+
 /// Adds a number to those of a name.
-pub(crate) fn add_number(
+fn add_number(
     alloc: Global,
     map: &mut NumberMap,
     name: &[u8],
@@ -44,4 +52,37 @@ pub(crate) fn add_number(
             Ok(())
         }
     }
+}
+
+/// Adds the numbers of rules, the first of which has this number, and answers the number behind them.
+fn add_rules(
+    alloc: Global,
+    map: &mut NumberMap,
+    rules: &[Rule],
+    first: u32,
+) -> Result<u32, OutOfMemory>
+    ensures numbers { OnOk result ((name : ListOf ℕ) → numbers_in map.new.entries name ≡ numbers_in map.old.entries name ++ numbers_from first rules.now name) }
+    ensures behind { IfOk result (λ n. n ≡ first + length rules.now) }
+{
+    let mut number = first;
+    for rule in rules {
+        add_number(alloc, map, rule.name.text.as_slice(), number)?;
+        number = number.checked_add(1).ok_or(OutOfMemory)?;
+    }
+    Ok(number)
+}
+
+/// The numbers of rules and of those behind them, and how many these are.
+pub(crate) fn number_rules(
+    alloc: Global,
+    prelude: &[Rule],
+    text: &[Rule],
+) -> Result<(NumberMap, u32), OutOfMemory>
+    ensures numbered { IfOk result (λ r. IsNumbered r.0.entries (prelude.now ++ text.now)) }
+    ensures counted { IfOk result (λ r. r.1 ≡ length (prelude.now ++ text.now)) }
+{
+    let mut map = IndexMap::new(alloc);
+    let before = add_rules(alloc, &mut map, prelude, 0)?;
+    let count = add_rules(alloc, &mut map, text, before)?;
+    Ok((map, count))
 }

@@ -1,9 +1,9 @@
-use Rattle.std.proofs.Common.{◌≡◌, ℕ, List, [], ◌∷◌, ◌++◌, Some, IsSome, Vec, Global, cond, sym, ap, refl, subst, ◌∙◌}
-use Rattle.std.specs.Option.{unwrap_or, option_copied_mut}
+use Rattle.std.proofs.Common.{◌≡◌, ℕ, List, [], ◌∷◌, ◌++◌, Some, IsSome, Vec, Global, cond, ap, refl, subst, ◌∙◌}
+use Rattle.std.specs.Option.{unwrap_or}
 use Rattle.std.specs.Map.{lookup}
 use Rattle.std.specs.Str.{bytes_eq}
 use Rattle.ecd_rules.proofs.Adding.{written, inserted, more, at_name}
-use Rattle.ecd_rules.specs.Numbers.{numbers_in, with_number}
+use Rattle.ecd_rules.specs.Numbers.{numbers_in}
 use Rattle.ecd_rules.proofs.numbers.add_number.Goals as goal
 
 abbrev bytes : Vec ℕ Global → List ℕ
