@@ -2,3 +2,4 @@ mod Ranks
 mod Adding
 mod Numbering
 mod Gathering
+mod Tabling

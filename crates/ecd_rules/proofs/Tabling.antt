@@ -1,0 +1,55 @@
+-- What a table answers.
+use Rattle.std.proofs.Common.{◌≡◌, ℕ, ◌+◌, ◌-◌, suc, ◌<◌, ◌≤◌, ◌^◌, Bool, true, cond, List, [], ◌∷◌, ◌++◌, length, Option, Some, None, nat_le, Vec, Global, sym, ap, ◌∙◌, subst, arith}
+use Rattle.std.specs.Prelude.{slice_get, false}
+use Rattle.std.specs.List.{filter, list_any}
+use Rattle.ecd_syntax.specs.declared.tree.Rule.{Rule}
+use Rattle.ecd_rules.specs.Named.{is_named, all_rules, bodies_of, first_of}
+use Rattle.ecd_rules.specs.Numbers.{numbers_in, first_in, numbers_from}
+use Rattle.ecd_rules.specs.Tables.{IsTable}
+use Rattle.ecd_rules.proofs.Numbering.{slice_get_left, slice_get_right, body_at, no_body, length-numbers, first_number, last_behind, none_behind}
+
+length-filter-le : {A : Type 0} (p : A → Bool) (xs : List A) → length (filter p xs) ≤ length xs
+length-filter-le p [] = omega arith
+length-filter-le p (x ∷ xs) = by (p x) (length-filter-le p xs)
+  where
+    by : (b : Bool) → length (filter p xs) ≤ length xs → length (cond b (x ∷ filter p xs) (filter p xs)) ≤ suc (length xs)
+    by true e = omega (arith, e)
+    by false e = omega (arith, e)
+
+module _ (prelude text : List Rule) (entries : List (Vec ℕ Global × List ℕ)) (groups : List Bool) (t : IsTable prelude text entries groups) where
+  all : prelude ++ text ≡ all_rules text
+  all = ap (λ (l : List Rule). l ++ text) t.first
+
+  pub rule_before : (n : ℕ) → n < length prelude → slice_get prelude n ≡ slice_get (all_rules text) n
+  rule_before n lt = sym (slice_get_left prelude text n lt) ∙ ap (λ (l : List Rule). slice_get l n) all
+
+  pub rule_behind : (n : ℕ) → length prelude ≤ n → slice_get text (n - length prelude) ≡ slice_get (all_rules text) n
+  rule_behind n le = sym (slice_get_right prelude text n le) ∙ ap (λ (l : List Rule). slice_get l n) all
+
+  module _ (name : List ℕ) where
+    pub first_is : first_in entries name ≡ first_of text name
+    first_is = ap (λ (l : List ℕ). slice_get l 0) (t.numbered name) ∙ first_number name (all_rules text)
+
+    pub count_is : length (numbers_in entries name) ≡ length (bodies_of text name)
+    count_is = ap length (t.numbered name) ∙ length-numbers name 0 (all_rules text)
+
+    pub count_fits : length (numbers_in entries name) < 2 ^ 32
+    count_fits = let few = length-filter-le (is_named name) (all_rules text) in omega (arith, count_is, few, t.counted)
+
+    pub body_is : (i k : ℕ) → slice_get (numbers_in entries name) i ≡ Some k → slice_get (all_rules text) k ≡ slice_get (bodies_of text name) i
+    body_is i k h =
+        let r = body_at name 0 i k (all_rules text) (ap (λ (l : List ℕ). slice_get l i) (sym (t.numbered name)) ∙ h) in
+        let same : k ≡ r.place = omega (arith, r.is) in
+        ap (slice_get (all_rules text)) same ∙ r.body
+
+    pub no_body_is : (i : ℕ) → slice_get (numbers_in entries name) i ≡ None → None ≡ slice_get (bodies_of text name) i
+    no_body_is i h = sym (no_body name 0 i (all_rules text) (ap (λ (l : List ℕ). slice_get l i) (sym (t.numbered name)) ∙ h))
+
+    numbered : numbers_in entries name ≡ numbers_from 0 (prelude ++ text) name
+    numbered = t.numbered name ∙ ap (λ (l : List Rule). numbers_from 0 l name) (sym all)
+
+    pub last_is : (i k : ℕ) → i + 1 ≡ length (numbers_in entries name) → slice_get (numbers_in entries name) i ≡ Some k → nat_le (length prelude) k ≡ list_any (is_named name) text
+    last_is i k last there = last_behind name prelude text i k (omega (arith, last, ap length numbered)) (ap (λ (l : List ℕ). slice_get l i) (sym numbered) ∙ there)
+
+    pub none_is : numbers_in entries name ≡ [] → false ≡ list_any (is_named name) text
+    none_is none = none_behind name prelude text (sym numbered ∙ none)
