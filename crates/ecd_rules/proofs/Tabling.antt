@@ -1,7 +1,8 @@
 -- What a table answers.
-use Rattle.std.proofs.Common.{◌≡◌, ℕ, ◌+◌, ◌-◌, suc, ◌<◌, ◌≤◌, ◌^◌, Bool, true, cond, List, [], ◌∷◌, ◌++◌, length, Option, Some, None, nat_le, Vec, Global, sym, ap, ◌∙◌, subst, arith}
+use Rattle.std.proofs.Common.{◌≡◌, ℕ, ◌+◌, ◌-◌, suc, ◌<◌, ◌≤◌, ◌^◌, Bool, true, cond, List, [], ◌∷◌, ◌++◌, length, Option, Some, None, nat_le, get_or, refl, Vec, Global, sym, ap, ◌∙◌, subst, arith}
 use Rattle.std.specs.Prelude.{slice_get, false}
 use Rattle.std.specs.List.{filter, list_any}
+use Rattle.std.proofs.lemmas.Option.{slice_get-get_or}
 use Rattle.ecd_syntax.specs.declared.tree.Rule.{Rule}
 use Rattle.ecd_rules.specs.Named.{is_named, all_rules, bodies_of, first_of}
 use Rattle.ecd_rules.specs.Numbers.{numbers_in, first_in, numbers_from}
@@ -15,6 +16,17 @@ length-filter-le p (x ∷ xs) = by (p x) (length-filter-le p xs)
     by : (b : Bool) → length (filter p xs) ≤ length xs → length (cond b (x ∷ filter p xs) (filter p xs)) ≤ suc (length xs)
     by true e = omega (arith, e)
     by false e = omega (arith, e)
+
+pub last_place : (xs : List ℕ) (x : ℕ) → slice_get xs (length xs - 1) ≡ Some x → length xs - 1 + 1 ≡ length xs
+last_place [] x h = cc
+last_place (y ∷ ys) x h = omega arith
+
+pub no_last : (xs : List ℕ) → slice_get xs (length xs - 1) ≡ None → xs ≡ []
+no_last [] h = refl
+no_last (y ∷ ys) h = absurd (some (length (y ∷ ys) - 1) (omega arith) h)
+  where
+    some : (i : ℕ) → i < length (y ∷ ys) → slice_get (y ∷ ys) i ≡ None → ⊥
+    some i lt e = let is : slice_get (y ∷ ys) i ≡ Some (get_or (y ∷ ys) i 0) = slice_get-get_or (y ∷ ys) i 0 lt in cc
 
 module _ (prelude text : List Rule) (entries : List (Vec ℕ Global × List ℕ)) (groups : List Bool) (t : IsTable prelude text entries groups) where
   all : prelude ++ text ≡ all_rules text

@@ -1,6 +1,6 @@
 //! The numbers of the rules of each name.
 
-ghost use Rattle.std.specs.Prelude.{◌≡◌, ◌+◌, ◌++◌, ℕ, List as ListOf, IfOk, OnOk, length};
+ghost use Rattle.std.specs.Prelude.{◌≡◌, ◌+◌, ◌-◌, ◌++◌, ℕ, List as ListOf, IfOk, OnOk, length, slice_get};
 ghost use Rattle.ecd_rules.specs.Numbers.{numbers_in, first_in, with_number, numbers_from, IsNumbered};
 
 use ecd_list::{List, OutOfMemory};
@@ -24,11 +24,25 @@ pub(crate) fn numbers_at<'a>(map: &'a NumberMap, name: &[u8]) -> &'a [u32]
     }
 }
 
+/// The number of a name at an index.
+pub(crate) fn number_at(map: &NumberMap, name: &[u8], index: u32) -> Option<u32>
+    ensures { result ≡ slice_get (numbers_in map.now.entries name.now) index }
+{
+    numbers_at(map, name).get(index as usize).copied()
+}
+
 /// The first number of a name.
 pub(crate) fn first_number(map: &NumberMap, name: &[u8]) -> Option<u32>
     ensures { result ≡ first_in map.now.entries name.now }
 {
-    numbers_at(map, name).first().copied()
+    number_at(map, name, 0)
+}
+
+/// The last number of a name.
+pub(crate) fn last_number(map: &NumberMap, name: &[u8]) -> Option<u32>
+    ensures { let numbers = numbers_in map.now.entries name.now in result ≡ slice_get numbers (length numbers - 1) }
+{
+    numbers_at(map, name).last().copied()
 }
 
 /// Adds a number to those of a name.

@@ -6,7 +6,7 @@ ghost use Rattle.ecd_rules.specs.Named.{all_rules, bodies_of, first_of, arity_of
 ghost use Rattle.ecd_rules.specs.Kinds.{IsGroup};
 
 use crate::kinds::{group_marks, is_group_socket};
-use crate::numbers::{NumberMap, first_number, number_rules, numbers_at};
+use crate::numbers::{NumberMap, first_number, last_number, number_at, number_rules, numbers_at};
 use ecd_list::OutOfMemory;
 use ecd_prelude::{is_float_name, prelude};
 use ecd_syntax::{Rule, RuleList, Tree};
@@ -126,8 +126,8 @@ impl RuleTable {
     pub fn is_in_text(&self, name: &[u8]) -> bool
         ensures { result ≡ is_in_text self.now name.now }
     {
-        match numbers_at(&self.numbers, name).last() {
-            Some(last) => *last as usize >= self.prelude.len(),
+        match last_number(&self.numbers, name) {
+            Some(last) => last as usize >= self.prelude.len(),
             None => false,
         }
     }
@@ -143,7 +143,7 @@ impl RuleTable {
     pub fn body(&self, name: &[u8], index: u32) -> Option<&Rule>
         ensures { option_copied result ≡ slice_get (bodies_of self.now name.now) index }
     {
-        let number = *numbers_at(&self.numbers, name).get(index as usize)?;
+        let number = number_at(&self.numbers, name, index)?;
         self.rule(number)
     }
 }
