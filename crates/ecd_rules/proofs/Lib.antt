@@ -3,3 +3,8 @@ mod Adding
 mod Numbering
 mod Gathering
 mod Tabling
+mod Sockets
+mod Firsts
+mod Marking
+mod Judging
+mod Judged

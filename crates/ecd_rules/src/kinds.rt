@@ -1,6 +1,7 @@
 //! Which names are groups: what makes them so, as a graph.
 
-ghost use Rattle.std.specs.Prelude.{◌≡◌, ◌++◌, ◌<◌, ℕ, IfOk, OnOk, length, flat_map};
+ghost use Rattle.std.specs.Prelude.{◌≡◌, ◌↔◌, ◌++◌, ◌<◌, ℕ, suc, IfOk, OnOk, length, flat_map};
+ghost use Rattle.ecd_graph.specs.Graphs.{IsMarked};
 ghost use Rattle.ecd_prelude.specs.Prelude.{prelude_rules};
 ghost use Rattle.ecd_rules.specs.Named.{is_parameter as has_parameter, all_rules};
 ghost use Rattle.ecd_rules.specs.Numbers.{first_in, IsNumbered};
@@ -124,6 +125,16 @@ fn add_edges(
     Ok(())
 }
 
+/// A mark for each node, of which the source alone is marked. It is the last.
+fn source_mark(alloc: Global, source: u32) -> Result<Vec<bool>, OutOfMemory>
+    ensures nodes { IfOk result (λ marks. length marks.items ≡ suc source) }
+    ensures marked { IfOk result (λ marks. (node : ℕ) → IsMarked marks.items node ↔ (node ≡ source)) }
+{
+    let mut marks = vec![in alloc; false; source as usize]?;
+    marks.push(true)?;
+    Ok(marks)
+}
+
 /// Which names are groups, as a mark for the number of each name's first rule.
 pub(crate) fn group_marks(
     alloc: Global,
@@ -141,7 +152,7 @@ pub(crate) fn group_marks(
     let mut edges = Vec::new(alloc);
     add_edges(alloc, numbers, count, &mut edges, prelude)?;
     add_edges(alloc, numbers, count, &mut edges, text)?;
-    let mut marked = vec![in alloc; false; count as usize]?;
-    marked.push(true)?;
-    reached(alloc, edges.as_slice(), marked.as_slice())
+    let marked = source_mark(alloc, count)?;
+    let groups = reached(alloc, edges.as_slice(), marked.as_slice())?;
+    Ok(groups)
 }
