@@ -1,12 +1,16 @@
 -- What a table answers.
-use Rattle.std.proofs.Common.{◌≡◌, ℕ, ◌+◌, ◌-◌, suc, ◌<◌, ◌≤◌, ◌^◌, Bool, true, cond, List, [], ◌∷◌, ◌++◌, length, Option, Some, None, nat_le, get_or, refl, Vec, Global, sym, ap, ◌∙◌, subst, arith}
+use Rattle.std.proofs.Common.{◌≡◌, ◌↔◌, ℕ, ◌+◌, ◌-◌, suc, ◌<◌, ◌≤◌, ◌^◌, Bool, true, cond, List, [], ◌∷◌, ◌++◌, length, Option, Some, None, nat_le, get_or, refl, Vec, Global, sym, ap, ◌∙◌, subst, arith}
 use Rattle.std.specs.Prelude.{slice_get, false}
 use Rattle.std.specs.List.{filter, list_any}
-use Rattle.std.proofs.lemmas.Option.{slice_get-get_or}
+use Rattle.std.proofs.lemmas.Option.{slice_get-get_or, slice_get_within}
 use Rattle.ecd_syntax.specs.declared.tree.Rule.{Rule}
-use Rattle.ecd_rules.specs.Named.{is_named, all_rules, bodies_of, first_of}
+use Rattle.ecd_rules.specs.Named.{is_named, all_rules, bodies_of, first_of, first_arity}
+use Rattle.ecd_rules.specs.Kinds.{IsGroup}
+use Rattle.ecd_rules.specs.Causes.{begins_group_socket}
 use Rattle.ecd_rules.specs.Numbers.{numbers_in, first_in, numbers_from}
 use Rattle.ecd_rules.specs.Tables.{IsTable}
+use Rattle.ecd_rules.proofs.Firsts.{first_at}
+use Rattle.ecd_rules.proofs.Judging.{without_rule}
 use Rattle.ecd_rules.proofs.Numbering.{slice_get_left, slice_get_right, body_at, no_body, length-numbers, first_number, last_behind, none_behind}
 
 length-filter-le : {A : Type 0} (p : A → Bool) (xs : List A) → length (filter p xs) ≤ length xs
@@ -65,3 +69,25 @@ module _ (prelude text : List Rule) (entries : List (Vec ℕ Global × List ℕ)
 
     pub none_is : numbers_in entries name ≡ [] → false ≡ list_any (is_named name) text
     none_is none = none_behind name prelude text (sym numbered ∙ none)
+
+    pub judged_is : (k : ℕ) → first_of text name ≡ Some k → (get_or groups k false ≡ true) ↔ IsGroup text name
+    judged_is k h = t.judged name k (first_is ∙ h)
+
+    pub marked_is : (k : ℕ) → first_of text name ≡ Some k → k < length groups
+    marked_is k h =
+        let f = first_at (all_rules text) name k h in
+        let lt = slice_get_within (all_rules text) k f.rule f.stands in
+        omega (arith, lt, t.marks)
+
+  pub unruled_is : (name : List ℕ) → first_of text name ≡ None → (begins_group_socket name ≡ true) ↔ IsGroup text name
+  unruled_is name h = without_rule text (all_rules text) refl (first_in entries) first_is (length (all_rules text)) refl name (first_is name ∙ h)
+
+-- ---- the number of parameters
+
+pub arity_some : (rules : List Rule) (rule : Rule) → slice_get rules 0 ≡ Some rule → length rule.params ≡ first_arity rules
+arity_some [] rule h = cc
+arity_some (x ∷ xs) rule h = let same : x ≡ rule = cc in ap (λ (r : Rule). length r.params) (sym same)
+
+pub arity_none : (rules : List Rule) → slice_get rules 0 ≡ None → 0 ≡ first_arity rules
+arity_none [] h = refl
+arity_none (x ∷ xs) h = cc
