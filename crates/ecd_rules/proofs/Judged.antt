@@ -34,8 +34,7 @@ module _ (entries : List (Vec ℕ Global × List ℕ)) (count : ℕ) (prelude te
     pub is_judged : (edges : List Edge) (marks reached : List Bool) → edges ≡ flat_map of_rule (prelude ++ text) → ((v : ℕ) → IsMarked marks v ↔ (v ≡ count)) → ((v : ℕ) → IsMarked reached v ↔ IsReached edges marks v) → AreJudged text (first_in entries) reached
     is_judged edges marks reached is marked reaches name node first =
         let same : edges ≡ flat_map of_rule (all_rules text) = is ∙ ap (flat_map of_rule) all in
-        let r = reaches node in
-        (
+        let r = reaches node in (
           (λ m. is_sound text (all_rules text) refl (first_in entries) is_first count counted marks (λ v. (marked v).0) node name first (subst (λ (es : List Edge). IsReached es marks node) same (r.0 m))),
           (λ g. r.1 (subst (λ (es : List Edge). IsReached es marks node) (sym same) (is_complete text (all_rules text) refl (first_in entries) is_first count counted marks ((marked count).1 refl) node name first g))),
         )

@@ -3,11 +3,12 @@ use Rattle.std.proofs.Common.{◌≡◌, ◌↔◌, ℕ, ◌+◌, ◌-◌, suc, 
 use Rattle.std.specs.Prelude.{slice_get, false}
 use Rattle.std.specs.List.{filter, list_any}
 use Rattle.std.proofs.lemmas.Option.{slice_get-get_or, slice_get_within}
+use Rattle.ecd_prelude.specs.Prelude.{prelude_rules}
 use Rattle.ecd_syntax.specs.declared.tree.Rule.{Rule}
 use Rattle.ecd_rules.specs.Named.{is_named, all_rules, bodies_of, first_of, first_arity}
 use Rattle.ecd_rules.specs.Kinds.{IsGroup}
-use Rattle.ecd_rules.specs.Causes.{begins_group_socket}
-use Rattle.ecd_rules.specs.Numbers.{numbers_in, first_in, numbers_from}
+use Rattle.ecd_rules.specs.Causes.{begins_group_socket, AreJudged}
+use Rattle.ecd_rules.specs.Numbers.{numbers_in, first_in, numbers_from, IsNumbered}
 use Rattle.ecd_rules.specs.Tables.{IsTable}
 use Rattle.ecd_rules.proofs.Firsts.{first_at}
 use Rattle.ecd_rules.proofs.Judging.{without_rule}
@@ -31,6 +32,27 @@ no_last (y ∷ ys) h = absurd (some (length (y ∷ ys) - 1) (omega arith) h)
   where
     some : (i : ℕ) → i < length (y ∷ ys) → slice_get (y ∷ ys) i ≡ None → ⊥
     some i lt e = let is : slice_get (y ∷ ys) i ≡ Some (get_or (y ∷ ys) i 0) = slice_get-get_or (y ∷ ys) i 0 lt in cc
+
+-- ---- a table is made
+
+pub all_same : (front prelude back text : List Rule) → front ≡ prelude → prelude ≡ prelude_rules → back ≡ text → front ++ back ≡ all_rules text
+all_same front prelude back text e f g = ap (λ (l : List Rule). l ++ back) (e ∙ f) ∙ ap all_rules g
+
+module _ (entries : List (Vec ℕ Global × List ℕ)) where
+  pub numbered_all : (rules text : List Rule) → rules ≡ all_rules text → IsNumbered entries rules → IsNumbered entries (all_rules text)
+  numbered_all rules text same numbered = subst (IsNumbered entries) same numbered
+
+  pub table_made : (prelude text back rules : List Rule) (groups : List Bool) → prelude ≡ prelude_rules → rules ≡ all_rules text → back ≡ text → length rules < 2 ^ 32 → IsNumbered entries rules
+      → AreJudged back (first_in entries) groups → length (all_rules back) < length groups → IsTable prelude text entries groups
+  table_made prelude text back rules groups first same is few numbered judged marks = record {
+    first = first;
+    counted = subst (λ (l : List Rule). length l < 2 ^ 32) same few;
+    numbered = subst (IsNumbered entries) same numbered;
+    judged = subst (λ (l : List Rule). AreJudged l (first_in entries) groups) is judged;
+    marks = subst (λ (l : List Rule). length (all_rules l) < length groups) is marks;
+  }
+
+-- ---- what it answers
 
 module _ (prelude text : List Rule) (entries : List (Vec ℕ Global × List ℕ)) (groups : List Bool) (t : IsTable prelude text entries groups) where
   all : prelude ++ text ≡ all_rules text

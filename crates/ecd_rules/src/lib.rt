@@ -1,8 +1,8 @@
 //! The rules of a schema under their names: bodies, numbers of parameters, and which names are groups.
 #![tactic(auto)]
 
-pub mod laws;
 mod kinds;
+pub mod laws;
 mod numbers;
 mod table;
 

@@ -1,6 +1,6 @@
 //! The numbers of the rules of each name.
 
-ghost use Rattle.std.specs.Prelude.{◌≡◌, ◌+◌, ◌-◌, ◌++◌, ℕ, List as ListOf, IfOk, OnOk, length, slice_get};
+ghost use Rattle.std.specs.Prelude.{◌≡◌, ◌+◌, ◌-◌, ◌++◌, ◌<◌, ◌^◌, ℕ, List as ListOf, IfOk, OnOk, length, slice_get};
 ghost use Rattle.ecd_rules.specs.Numbers.{numbers_in, first_in, with_number, numbers_from, IsNumbered};
 
 use ecd_list::{List, OutOfMemory};
@@ -94,6 +94,7 @@ pub(crate) fn number_rules(
 ) -> Result<(NumberMap, u32), OutOfMemory>
     ensures numbered { IfOk result (λ r. IsNumbered r.0.entries (prelude.now ++ text.now)) }
     ensures counted { IfOk result (λ r. r.1 ≡ length (prelude.now ++ text.now)) }
+    ensures few { OnOk result (length (prelude.now ++ text.now) < 2 ^ 32) }
 {
     let mut map = IndexMap::new(alloc);
     let before = add_rules(alloc, &mut map, prelude, 0)?;

@@ -15,7 +15,7 @@ loop-rule-preserved c =
     record {
       counted = omega arith;
       numbered = λ name.
-      let place : c.loop-rule.number ≡ c.args.first + length (take i items) = omega arith in
-      let at_it = with_same name _ _ _ _ _ _ (h.numbered name) c.as_slice.ensures place in
-      c.in_ok-add_number.ensures name ∙ (at_it ∙ (joined name (bytes_eq c.rule-item.result.name.text name) (numbers_in c.args.map.now.entries name) (numbers_from c.args.first (take i items) name) (c.args.first + length (take i items)) ∙ ap (λ l. numbers_in c.args.map.now.entries name ++ l) (sym (numbers_more name c.args.first i items c.rule-item.result c.loop-rule-test.true c.rule-item.is))));
+          let place : c.loop-rule.number ≡ c.args.first + length (take i items) = omega arith in
+          let at_it = with_same name _ _ _ _ _ _ (h.numbered name) c.as_slice.ensures place in
+          c.in_ok-add_number.ensures name ∙ (at_it ∙ (joined name (bytes_eq c.rule-item.result.name.text name) (numbers_in c.args.map.now.entries name) (numbers_from c.args.first (take i items) name) (c.args.first + length (take i items)) ∙ ap (λ l. numbers_in c.args.map.now.entries name ++ l) (sym (numbers_more name c.args.first i items c.rule-item.result c.loop-rule-test.true c.rule-item.is))));
     }
