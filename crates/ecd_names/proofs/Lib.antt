@@ -10,3 +10,6 @@ mod Graphs
 mod Leveling
 mod Duplicates
 mod Judging
+mod Preludes
+mod Cycles
+mod Resolving
