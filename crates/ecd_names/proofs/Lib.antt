@@ -13,3 +13,4 @@ mod Judging
 mod Preludes
 mod Cycles
 mod Resolving
+mod Counting
