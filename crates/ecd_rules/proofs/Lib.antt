@@ -8,3 +8,5 @@ mod Firsts
 mod Marking
 mod Judging
 mod Judged
+mod Bodies
+mod Grouping

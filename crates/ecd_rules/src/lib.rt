@@ -9,3 +9,6 @@ mod table;
 pub use ecd_list::OutOfMemory;
 pub use ecd_syntax::{Rule, Tree};
 pub use table::RuleTable;
+
+#[cfg(test)]
+mod tests;

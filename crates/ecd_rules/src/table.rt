@@ -45,7 +45,7 @@ impl RuleTable {
     ///
     /// # Errors
     ///
-    /// `OutOfMemory` where a growth was refused, there are 2^32 or more rules, or parentheses alone stand inside each other in more than 1,000 levels.
+    /// `OutOfMemory` where a growth was refused, there are 2^32 - 1 or more rules, or parentheses alone stand inside each other in more than 1,000 levels.
     pub fn new(alloc: Global, tree: Tree) -> Result<RuleTable, OutOfMemory>
         ensures { IfOk result (λ t. t ≡ tree.rules) }
     {
