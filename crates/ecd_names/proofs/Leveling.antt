@@ -49,9 +49,10 @@ module _ (text : List Rule) (levels : List ℕ) (are : AreLevels text levels) wh
   -- a use leads back where both names have one level
   pub level-back : (a b : List ℕ) (x y : ℕ) → Uses text a b → first_of text a ≡ Some x → first_of text b ≡ Some y → (get_or levels x 0 ≡ get_or levels y 0) ↔ LeadsTo text b a
   level-back a b x y u e f =
-      let both = are.components x y (node-below (all_rules text) a x e) (node-below (all_rules text) b y f) in
-      (λ same. leads-reaches text (edges_of text) (first_of text) (are-nodes text) y x b a f e (both.0 same).1,
-       λ back. both.1 (use-reaches a b x y u e f, reaches-leads text (edges_of text) (first_of text) (are-nodes text) y x b a f e back))
+      let both = are.components x y (node-below (all_rules text) a x e) (node-below (all_rules text) b y f) in (
+        λ same. leads-reaches text (edges_of text) (first_of text) (are-nodes text) y x b a f e (both.0 same).1,
+        λ back. both.1 (use-reaches a b x y u e f, reaches-leads text (edges_of text) (first_of text) (are-nodes text) y x b a f e back),
+      )
 
   -- what has no rule leads nowhere
   pub none-back : (a b : List ℕ) → Uses text a b → first_of text b ≡ None → LeadsTo text b a → ⊥

@@ -168,11 +168,85 @@ tagged_names : (name : List ℕ) (n : ℕ) (v a w b : List ℕ) → list_all (is
 tagged_names name n v a w b = falls_by name (only (tagged_pair n (member v a) (member w b))) _ (rule-sites name (only (tagged_pair n (member v a) (member w b))) ∙ (type-one (tagged_pair n (member v a) (member w b)) ∙ pair-sites n v a w b))
 
 each_falls : AllByRecursion Falls prelude_rules
-each_falls =
-    (no_name _ _ _, (no_name _ _ _, (no_name _ _ _, (two_names _ _ _ refl, (no_name _ _ _, (one_name _ _ refl, (no_name _ _ _, (one_name _ _ refl,
-    (tagged_name _ _ _ refl, (tagged_name _ _ _ refl, (tagged_name _ _ _ refl, (two_names _ _ _ refl, (two_names _ _ _ refl, (two_names _ _ _ refl, (tagged_names _ _ _ _ _ _ refl, (tagged_names _ _ _ _ _ _ refl,
-    (tagged_name _ _ _ refl, (tagged_name _ _ _ refl, (tagged_name _ _ _ refl, (tagged_name _ _ _ refl, (tagged_name _ _ _ refl, (tagged_name _ _ _ refl, (tagged_name _ _ _ refl, (tagged_name _ _ _ refl, (tagged_name _ _ _ refl, (tagged_name _ _ _ refl,
-    (no_name _ _ _, (no_name _ _ _, (two_names _ _ _ refl, (no_name _ _ _, (one_name _ _ refl, (no_name _ _ _, tt))))))))))))))))))))))))))))))))
+each_falls = (
+  no_name _ _ _,
+  (
+    no_name _ _ _,
+    (
+      no_name _ _ _,
+      (
+        two_names _ _ _ refl,
+        (
+          no_name _ _ _,
+          (
+            one_name _ _ refl,
+            (
+              no_name _ _ _,
+              (
+                one_name _ _ refl,
+                (
+                  tagged_name _ _ _ refl,
+                  (
+                    tagged_name _ _ _ refl,
+                    (
+                      tagged_name _ _ _ refl,
+                      (
+                        two_names _ _ _ refl,
+                        (
+                          two_names _ _ _ refl,
+                          (
+                            two_names _ _ _ refl,
+                            (
+                              tagged_names _ _ _ _ _ _ refl,
+                              (
+                                tagged_names _ _ _ _ _ _ refl,
+                                (
+                                  tagged_name _ _ _ refl,
+                                  (
+                                    tagged_name _ _ _ refl,
+                                    (
+                                      tagged_name _ _ _ refl,
+                                      (
+                                        tagged_name _ _ _ refl,
+                                        (
+                                          tagged_name _ _ _ refl,
+                                          (
+                                            tagged_name _ _ _ refl,
+                                            (
+                                              tagged_name _ _ _ refl,
+                                              (
+                                                tagged_name _ _ _ refl,
+                                                (
+                                                  tagged_name _ _ _ refl,
+                                                  (
+                                                    tagged_name _ _ _ refl,
+                                                    (no_name _ _ _, (no_name _ _ _, (two_names _ _ _ refl, (no_name _ _ _, (one_name _ _ refl, (no_name _ _ _, tt)))))),
+                                                  ),
+                                                ),
+                                              ),
+                                            ),
+                                          ),
+                                        ),
+                                      ),
+                                    ),
+                                  ),
+                                ),
+                              ),
+                            ),
+                          ),
+                        ),
+                      ),
+                    ),
+                  ),
+                ),
+              ),
+            ),
+          ),
+        ),
+      ),
+    ),
+  ),
+)
 
 pub prelude-falls : (rule : Rule) → Contains prelude_rules rule → Falls rule
 prelude-falls rule c = All-contains Falls prelude_rules rule (All-from_recursion Falls prelude_rules each_falls) c

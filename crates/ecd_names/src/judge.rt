@@ -47,10 +47,7 @@ fn judge_rules(
 }
 
 /// The first rule of names that the text breaks.
-pub(crate) fn first_broken(
-    alloc: Global,
-    table: &RuleTable,
-) -> Result<Option<Broken>, OutOfMemory>
+pub(crate) fn first_broken(alloc: Global, table: &RuleTable) -> Result<Option<Broken>, OutOfMemory>
     ensures first { IfOk result (λ broken. Sees None broken (Breaks table.now)) }
     ensures ranked { IfOk result (λ broken. broken ≡ None → IsRanked table.now) }
     ensures few { IfOk result (λ _. HasFewParameters table.now) }

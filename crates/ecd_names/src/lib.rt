@@ -20,3 +20,6 @@ pub use ecd_syntax::{Rule, Tree};
 pub use fault::NameFault;
 pub use info::NameInfo;
 pub use names::{Names, resolve};
+
+#[cfg(test)]
+mod tests;

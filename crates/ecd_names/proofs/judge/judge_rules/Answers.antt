@@ -11,8 +11,12 @@ use Rattle.ecd_names.proofs.judge.judge_rules.Goals as goal
 pub bounds-scopes-prelude : goal.bounds-scopes-prelude
 bounds-scopes-prelude c =
     let text = c.args.table.now in
-    omega (arith, scopes-each (all_rules text) c.args.scopes.now c.requires.scopes, c.rule_count.ensures,
-    count-within prelude_rules text c.text_rules-rules.result.now c.text_rules-rules.ensures c.rule_count.result c.rule_count.ensures c.loop-index.index c.index-rules-index.result c.loop-index-test.true)
+    omega (
+      arith,
+      scopes-each (all_rules text) c.args.scopes.now c.requires.scopes,
+      c.rule_count.ensures,
+      count-within prelude_rules text c.text_rules-rules.result.now c.text_rules-rules.ensures c.rule_count.result c.rule_count.ensures c.loop-index.index c.index-rules-index.result c.loop-index-test.true,
+    )
 
 pub judge_rule-requires : goal.judge_rule-requires
 judge_rule-requires c =
