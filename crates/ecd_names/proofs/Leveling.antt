@@ -1,13 +1,15 @@
 -- Levels of names, and where names lead back.
-use Rattle.std.proofs.Common.{ℕ, zero, suc, ◌≡◌, ◌≢◌, ◌<◌, ◌≤◌, ◌↔◌, List, [], ◌∷◌, length, get_or, refl, ap, sym, ◌∙◌, subst, arith}
+use Rattle.std.proofs.Common.{ℕ, zero, suc, ◌≡◌, ◌≢◌, ◌<◌, ◌≤◌, ◌↔◌, false, List, [], ◌∷◌, length, get_or, refl, ap, sym, ◌∙◌, subst, arith}
 use Rattle.std.specs.Prelude.{Option, Some, None, slice_get, flat_map}
 use Rattle.std.specs.List.{Contains}
 use Rattle.ecd_graph.specs.declared.edge.Edge.{Edge}
 use Rattle.ecd_graph.specs.Graphs.{IsEdge, Reaches, AreAmong, NumbersComponents, AreInOrder}
 use Rattle.ecd_syntax.specs.declared.tree.Rule.{Rule}
-use Rattle.ecd_rules.specs.Named.{all_rules, first_of}
+use Rattle.ecd_rules.specs.Named.{all_rules, first_of, is_parameter}
 use Rattle.ecd_rules.specs.Leading.{Uses, LeadsTo, IsRanked}
+use Rattle.ecd_names.specs.Breaks.{IsRecursive}
 use Rattle.ecd_names.specs.Edges.{rule_edges, edges_of, AreLevels}
+use Rattle.ecd_names.specs.Scenes.{HaveOneLevel}
 use Rattle.ecd_names.proofs.Walking.{some_same, element_at, at_element}
 use Rattle.ecd_names.proofs.Nodes.{node-named, node-below, node-of}
 use Rattle.ecd_names.proofs.Graphs.{AreNodes, IsUseEdge, use-edge, edge-use, leads-reaches, reaches-leads, node-leads}
@@ -47,9 +49,10 @@ module _ (text : List Rule) (levels : List ℕ) (are : AreLevels text levels) wh
   -- a use leads back where both names have one level
   pub level-back : (a b : List ℕ) (x y : ℕ) → Uses text a b → first_of text a ≡ Some x → first_of text b ≡ Some y → (get_or levels x 0 ≡ get_or levels y 0) ↔ LeadsTo text b a
   level-back a b x y u e f =
-      let both = are.components x y (node-below (all_rules text) a x e) (node-below (all_rules text) b y f) in
-      (λ same. leads-reaches text (edges_of text) (first_of text) (are-nodes text) y x b a f e (both.0 same).1,
-       λ back. both.1 (use-reaches a b x y u e f, reaches-leads text (edges_of text) (first_of text) (are-nodes text) y x b a f e back))
+      let both = are.components x y (node-below (all_rules text) a x e) (node-below (all_rules text) b y f) in (
+        λ same. leads-reaches text (edges_of text) (first_of text) (are-nodes text) y x b a f e (both.0 same).1,
+        λ back. both.1 (use-reaches a b x y u e f, reaches-leads text (edges_of text) (first_of text) (are-nodes text) y x b a f e back),
+      )
 
   -- what has no rule leads nowhere
   pub none-back : (a b : List ℕ) → Uses text a b → first_of text b ≡ None → LeadsTo text b a → ⊥
@@ -57,6 +60,19 @@ module _ (text : List Rule) (levels : List ℕ) (are : AreLevels text levels) wh
       let x = node-starts text a b u in
       let y = node-leads text (edges_of text) (first_of text) (are-nodes text) b a x.0 x.1 back in
       let bad : None ≡ Some y.0 = sym e ∙ y.1 in absurd cc
+
+  -- a rule's use leads back where its name and the rule's have one level
+  pub level-recursive : (rule : Rule) (first name : List ℕ) → first ≡ rule.name.text → is_parameter rule.params name ≡ false → Uses text rule.name.text name → (HaveOneLevel text levels first name → IsRecursive text rule name) × (IsRecursive text rule name → HaveOneLevel text levels first name)
+  level-recursive rule first name same free u = (to, λ r. by_node (first_of text name) refl r.back)
+    where
+      to : HaveOneLevel text levels first name → IsRecursive text rule name
+      to h = record { free = free; back = (level-back rule.name.text name h.first h.second u (ap (first_of text) (sym same) ∙ h.first_is) h.second_is).0 h.same }
+
+      by_node : (o : Option ℕ) → first_of text name ≡ o → LeadsTo text name rule.name.text → HaveOneLevel text levels first name
+      by_node None e back = absurd (none-back rule.name.text name u e back)
+      by_node (Some y) e back =
+          let x = node-starts text rule.name.text name u in
+          record { first = x.0; second = y; first_is = ap (first_of text) same ∙ x.1; second_is = e; same = (level-back rule.name.text name x.0 y u x.1 e).1 back }
 
   abbrev rank : Option ℕ → ℕ
   rank None = 0

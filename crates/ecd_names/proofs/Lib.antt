@@ -8,3 +8,9 @@ mod Linking
 mod Nodes
 mod Graphs
 mod Leveling
+mod Duplicates
+mod Judging
+mod Preludes
+mod Cycles
+mod Resolving
+mod Counting

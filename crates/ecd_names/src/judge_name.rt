@@ -71,11 +71,7 @@ fn judge_name(alloc: Global, scene: &Scene, first: &mut First) -> Result<(), Out
 }
 
 /// What a rule of the text breaks.
-pub(crate) fn judge_rule(
-    alloc: Global,
-    scene: &Scene,
-    first: &mut First,
-) -> Result<(), OutOfMemory>
+pub(crate) fn judge_rule(alloc: Global, scene: &Scene, first: &mut First) -> Result<(), OutOfMemory>
     requires { IsScene scene.now }
     ensures { OnOk result (Sees first.old.broken first.new.broken (RuleBreaks scene.now.table.now (take scene.now.index scene.now.table.now) scene.now.rule.now)) }
 {

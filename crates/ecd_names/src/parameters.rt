@@ -1,6 +1,6 @@
 //! The parameters of a rule (RFC 8610, section 3.10).
 
-ghost use Rattle.std.specs.Prelude.{◌≡◌, ℕ, Some, None, IfOk, OnOk, is_some, if◌then◌else◌, bytes_eq, List};
+ghost use Rattle.std.specs.Prelude.{◌≡◌, ◌<◌, ◌^◌, ℕ, length, Some, None, IfOk, OnOk, is_some, if◌then◌else◌, bytes_eq, List};
 ghost use Rattle.ecd_names.specs.First.{Sees, AnyBelow};
 ghost use Rattle.ecd_names.specs.Parameters.{under, or_first, comes_before, AreParameters, RepeatsOne};
 
@@ -9,6 +9,9 @@ use ecd_list::OutOfMemory;
 use ecd_syntax::Name;
 use std::alloc::Global;
 use std::collections::BTreeMap;
+
+/// The most parameters that a rule has.
+const MOST_PARAMETERS: usize = 0xFFFF_FFFF;
 
 /// Numbers under names.
 type Numbers = BTreeMap<Vec<u8>, usize>;
@@ -22,8 +25,12 @@ pub(crate) struct Parameters {
 impl Parameters {
     /// The parameters under their names.
     pub(crate) fn of(alloc: Global, params: &[Name]) -> Result<Parameters, OutOfMemory>
-        ensures { IfOk result (λ known. AreParameters params.now known) }
+        ensures known { IfOk result (λ known. AreParameters params.now known) }
+        ensures counted { IfOk result (λ _. length params.now < 2 ^ 32) }
     {
+        if params.len() > MOST_PARAMETERS {
+            return Err(OutOfMemory);
+        }
         let mut firsts = BTreeMap::new(alloc);
         for (number, param) in params.iter().enumerate() {
             put_first(alloc, &mut firsts, param.text.as_slice(), number)?;

@@ -1,1 +1,12 @@
 mod Ranks
+mod Adding
+mod Numbering
+mod Gathering
+mod Tabling
+mod Sockets
+mod Firsts
+mod Marking
+mod Judging
+mod Judged
+mod Bodies
+mod Grouping

@@ -2,3 +2,6 @@ pub mod Named
 pub mod Kinds
 pub mod Leading
 pub mod Laws
+pub mod Numbers
+pub mod Causes
+pub mod Tables

@@ -1,0 +1,14 @@
+//! Laws of the rules of names: facts about the definitions alone.
+
+ghost use Rattle.ecd_names.specs.Laws.{HasOneFirst, NoneIsFirst, RankedBreaksNoThird};
+
+/// A text has at most one first broken rule, and none where no rule is broken.
+pub fn one_first()
+    ensures one { HasOneFirst }
+    ensures none { NoneIsFirst }
+{}
+
+/// Where names have a ranking, no use breaks N3. `resolve` has the other side: where none is broken there is a ranking.
+pub fn ranked_names()
+    ensures { RankedBreaksNoThird }
+{}

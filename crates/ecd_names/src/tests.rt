@@ -1,0 +1,169 @@
+//! Schemas, and what their names break.
+
+use super::*;
+use ecd_lex::{MOST_BYTES, lex};
+use ecd_parse::parse;
+use std::alloc::Global;
+use std::test::Fail;
+
+fn tree_of(alloc: Global, text: &str) -> Result<Tree, Fail> {
+    if text.len() > MOST_BYTES {
+        return Err("too long".into());
+    }
+    let tokens = lex(alloc, text).ok().ok_or("a fault of lexemes")?;
+    let tree = parse(alloc, &tokens, text.len() as u32).ok();
+    Ok(tree.ok_or("a fault of grammar")?)
+}
+
+/// The rule and the place of the first fault, 0 and 0 where there is none.
+fn fault_of(alloc: Global, text: &str) -> Result<(u8, u32), Fail> {
+    match resolve(alloc, tree_of(alloc, text)?) {
+        Ok(_) => Ok((0, 0)),
+        Err(NameFault::At { place, rule }) => Ok((rule, place)),
+        Err(NameFault::OutOfMemory) => Err("no memory".into()),
+    }
+}
+
+fn names_of(alloc: Global, text: &str) -> Result<Names, Fail> {
+    let names = resolve(alloc, tree_of(alloc, text)?).ok();
+    Ok(names.ok_or("the names are refused")?)
+}
+
+#[test]
+fn the_first_broken_rule_is_named(rt: HostRuntime) -> Result<(), Fail> {
+    for (text, rule, place) in [
+        // A name is defined once.
+        ("a = 1 a = 2", 1, 6),
+        ("$s /= int $s = tstr", 1, 10),
+        ("a = int b = tstr", 0, 0),
+        ("a /= int a /= tstr", 0, 0),
+        ("int = uint", 1, 0),
+        ("int /= tstr", 1, 0),
+        ("int //= tstr", 1, 0),
+        ("a = 1 float = uint", 1, 6),
+        ("a<t, t> = [t]", 1, 5),
+        ("a<t, u, t> = [t, u]", 1, 8),
+        // A name that is used is defined.
+        ("a = b", 2, 4),
+        ("a = int / uint / b", 2, 17),
+        ("a = b<c> b<t> = [t]", 2, 6),
+        ("a<t> = [t] b = t", 2, 15),
+        ("a = {t: int}", 0, 0),
+        ("a = [$x, $$y]", 0, 0),
+        ("a = float", 0, 0),
+        // No name leads back to itself.
+        ("a = [* a]", 3, 7),
+        ("a = {a => int}", 3, 5),
+        ("a = b<a> b<t> = [t]", 3, 6),
+        ("a = [$s] $s /= a", 3, 5),
+        ("a = b b = a", 3, 4),
+        ("a = [b] b = [c] c = [b]", 3, 13),
+        ("a<a> = [a]", 0, 0),
+        ("int = uint uint = int", 1, 0),
+        // The numbers of arguments and parameters agree.
+        ("a = b<int, int> b<t> = [t]", 4, 4),
+        ("a = b b<t> = [t]", 4, 4),
+        ("a = int<int>", 4, 4),
+        ("a = $s<int>", 4, 4),
+        ("a<t> = t<int>", 4, 7),
+        ("a<t> /= t a<t, u> /= u", 4, 10),
+        ("a = b<int>", 2, 4),
+        // The kinds agree.
+        ("a = g / int g = (int, int)", 5, 4),
+        ("a = (int, tstr) / int", 5, 4),
+        ("a = ((int, tstr)) / int", 5, 4),
+        ("a = (b) / int b = (int, int)", 5, 4),
+        ("a = &b b = int", 5, 5),
+        ("a<t> = &t", 5, 8),
+        ("a = &$$s", 0, 0),
+        ("a = (int, int) a /= int", 5, 15),
+        ("a /= (int, int)", 5, 0),
+        ("$s //= int", 5, 0),
+        ("$s = (int, int)", 5, 0),
+        ("$s = (int)", 0, 0),
+        ("$$s /= int", 5, 0),
+        ("$$s //= int", 0, 0),
+        ("a = [$$s / int]", 5, 5),
+        ("a<$$s> = [$$s / int]", 0, 0),
+        ("g = (int, int) a<g> = [g / int]", 0, 0),
+        // A rule that breaks N1 counts too.
+        ("b = a / 5 a = int a = (int, int)", 5, 4),
+        ("b = [a] a = int a = b", 3, 5),
+    ] {
+        assert_eq!(rt; fault_of(rt.alloc(), text)?, (rule, place), "{text}");
+    }
+    Ok(())
+}
+
+#[test]
+fn names_are_told(rt: HostRuntime) -> Result<(), Fail> {
+    let alloc = rt.alloc();
+    let text = "a = [$s, g, b<int>] $s /= int $s /= tstr g = (int, int) b<t> = (t) b<u> /= [u]";
+    let names = names_of(alloc, text)?;
+    let told = |group, params, bodies| {
+        Some(NameInfo {
+            group,
+            params,
+            bodies,
+        })
+    };
+    for (name, info, in_text) in [
+        ("a", told(false, 0, 1), true),
+        ("$s", told(false, 0, 2), true),
+        ("g", told(true, 0, 1), true),
+        ("b", told(false, 1, 2), true),
+        ("int", told(false, 0, 1), false),
+        ("float", told(false, 0, 0), false),
+        ("t", None, false),
+        ("$t", None, false),
+    ] {
+        assert_eq!(rt; names.lookup(name), info, "{name}");
+        assert_eq!(rt; names.in_text(name), in_text, "{name}");
+    }
+    assert_eq!(rt; names.plugs("$s"), 2);
+    assert_eq!(rt; names.plugs("$t"), 0);
+    assert_eq!(rt; names.rules().len(), 6);
+    for (name, index, place) in [
+        ("$s", 0, 20),
+        ("$s", 1, 30),
+        ("g", 0, 41),
+        ("b", 1, 67),
+        ("int", 0, 0),
+    ] {
+        if index < names.plugs(name) {
+            assert_eq!(rt; names.body(name, index).name.at, place, "{name}");
+        }
+    }
+    Ok(())
+}
+
+/// `a0 = [a1]`, `a1 = [a2]` and so on, and the last is an integer.
+fn chain(alloc: Global, count: u32) -> Result<Vec<u8>, Fail> {
+    let mut text = Vec::new(alloc);
+    for number in 0..count {
+        let rule = format!(in alloc; "a{} = [a{}]\n", number, number as u64 + 1)?;
+        text.extend_from_slice(rule.as_bytes())?;
+    }
+    let last = format!(in alloc; "a{count} = int")?;
+    text.extend_from_slice(last.as_bytes())?;
+    Ok(text)
+}
+
+#[test]
+fn a_chain_of_names_is_resolved(rt: HostRuntime) -> Result<(), Fail> {
+    let text = chain(rt.alloc(), 5000)?;
+    let text = std::str::from_utf8(&text).ok().ok_or("no text")?;
+    let names = names_of(rt.alloc(), text)?;
+    assert_eq!(rt; names.plugs("a0"), 1);
+    assert_eq!(rt; names.rules().len(), 5001);
+    Ok(())
+}
+
+#[test]
+fn faults_are_told_in_words(rt: HostRuntime) -> Result<(), Fail> {
+    let told = format!(in rt.alloc(); "{}", NameFault::At { place: 4, rule: 2 })?;
+    assert_eq!(rt; told.as_str(), "rule N2 at byte 4");
+    let told = format!(in rt.alloc(); "{}", NameFault::OutOfMemory)?;
+    assert_eq!(rt; told.as_str(), "out of memory");
+    Ok(())
+}
