@@ -25,6 +25,8 @@ pub mod tree;
 pub mod validate;
 pub mod value;
 mod variables;
+#[cfg(test)]
+mod variables_tests;
 
 #[cfg(test)]
 mod tests {
