@@ -10,7 +10,7 @@ use Rattle.ecd_cast.specs.declared.tree.CItem.{CItem}
 use Rattle.ecd_cast.specs.declared.tree.CItem.TheVariants.{Struct as AStructDecl, Function as AFunction}
 use Rattle.ecd_cast.specs.declared.directory.Directory.{Directory}
 use Rattle.ecd_cast.specs.Memory.{Name}
-use Rattle.ecd_cast.specs.Kinds.{Kind, cell_of, cell_among}
+use Rattle.ecd_cast.specs.Kinds.{cell_of, cell_among}
 use Rattle.ecd_cast.specs.Validity.{is_among, structs_of, struct_names, functions_of, function_names, function_named}
 use Rattle.ecd_cast.specs.Chains.{under}
 use Rattle.ecd_cast.specs.Surroundings.{first_function, first_struct, or_first, Directs, IsFoundAs, struct_in, function_in, cells_in}

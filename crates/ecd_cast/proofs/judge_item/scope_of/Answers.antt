@@ -1,4 +1,4 @@
-use Rattle.std.proofs.Common.{◌∙◌, arith, ◌<◌, ◌≤◌, length}
+use Rattle.std.proofs.Common.{arith, ◌<◌, ◌≤◌, length}
 use Rattle.ecd_cast.proofs.Known.{params-more}
 use Rattle.ecd_cast.proofs.judge_item.scope_of.Goals as goal
 

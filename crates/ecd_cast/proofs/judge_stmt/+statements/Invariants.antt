@@ -1,4 +1,4 @@
-use Rattle.std.proofs.Common.{◌≡◌, ◌+◌, take, length}
+use Rattle.std.proofs.Common.{◌≡◌, ◌+◌, take}
 use Rattle.ecd_cast.specs.Laws.{count_all}
 use Rattle.ecd_cast.specs.Validity.{block_faults}
 use Rattle.ecd_cast.specs.First.{Sees, place_as}
