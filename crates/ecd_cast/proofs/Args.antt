@@ -4,7 +4,6 @@ use Rattle.std.specs.Prelude.{Option, Some, None, flat_map, slice_get, ◌&&◌,
 use Rattle.std.proofs.lemmas.List.{take_more}
 use Rattle.std.proofs.lemmas.Grind.{flat_map-append}
 use Rattle.std.proofs.lemmas.Bool.{leb-true, leb-false}
-use denote.Ref.{Bor}
 use Rattle.ecd_cast.specs.declared.tree.Expr.{Expr}
 use Rattle.ecd_cast.specs.declared.tree.Param.{Param}
 use Rattle.ecd_cast.specs.declared.tree.StructDecl.{StructDecl}
@@ -62,7 +61,7 @@ module _ (structs : List StructDecl) (known : Known) where
           and_true fit ∙ (e ∙ (λ i. args_fit structs known (same i) (take_whole es n h i)))
       by_test false t = and_false fit ∙ sym (fit-short ps es (leb-false (length ps) (length es) t))
 
-pub call-found : (s : Surroundings) (loops : List (Bor (List ℕ))) (known : Known) (args : List Expr) (g : Name) (found : Option Found) (fit : Bool) → IsFound s g found → fit ≡ args_fit (structs_before s) known (params_in found) args →
+pub call-found : (s : Surroundings) (loops known : Known) (args : List Expr) (g : Name) (found : Option Found) (fit : Bool) → IsFound s g found → fit ≡ args_fit (structs_before s) known (params_in found) args →
     called_broken found fit ≡ call_broken (around_as s loops) known args g (function_named (functions_of (take s.at_ s.items.now)) g)
 call-found s loops known args g None fit h e = rw (h.0, h.1)
 call-found s loops known args g (Some f) fit h e = by_test f.is_earlier h

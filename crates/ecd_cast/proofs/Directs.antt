@@ -10,10 +10,10 @@ use Rattle.ecd_cast.specs.declared.tree.CItem.{CItem}
 use Rattle.ecd_cast.specs.declared.tree.CItem.TheVariants.{Struct as AStructDecl, Function as AFunction}
 use Rattle.ecd_cast.specs.declared.directory.Directory.{Directory}
 use Rattle.ecd_cast.specs.Memory.{Name}
-use Rattle.ecd_cast.specs.Kinds.{Kind, cell_of, cell_among}
+use Rattle.ecd_cast.specs.Kinds.{cell_of, cell_among}
 use Rattle.ecd_cast.specs.Validity.{is_among, structs_of, struct_names, functions_of, function_names, function_named}
 use Rattle.ecd_cast.specs.Chains.{under}
-use Rattle.ecd_cast.specs.Surroundings.{first_function, first_struct, or_first, Directs, IsFoundAs, struct_in, function_in}
+use Rattle.ecd_cast.specs.Surroundings.{first_function, first_struct, or_first, Directs, IsFoundAs, struct_in, function_in, cells_in}
 
 -- ---- lists
 
@@ -142,10 +142,6 @@ no_struct n (AStructDecl s ∷ xs) g e = by_test (bytes_eq s.name g) refl (no_st
         ((c : Name) → cell_of (structs_of (AStructDecl s ∷ xs)) g c ≡ None) × (is_among (struct_names (AStructDecl s ∷ xs)) g ≡ false)
     by_test true t k = let e1 = rw t at e in absurd cc
     by_test false t k = let h = k (rw t at e) in (λ c. rw t (h.0 c), rw t h.1)
-
-abbrev cells_in : Option StructDecl → Name → Option Kind
-cells_in (Some t) c = cell_among t.cells c
-cells_in None c = None
 
 -- ---- before an item, by what the whole file has
 
@@ -279,21 +275,13 @@ module _ (items : List CItem) (at_ : ℕ) (there : at_ ≤ length items) (g : Na
   pub no_cell_yet : (i : ℕ) → first_struct 0 items g ≡ Some i → at_ ≤ i → (c : Name) → cell_of (structs_of (take at_ items)) g c ≡ None
   no_cell_yet i e le c = (no_struct 0 (take at_ items) g (no_earlier_struct i e le)).0 c
 
-  -- the declaration that stands at a struct's number
-  pub cell_there : (i : ℕ) → first_struct 0 items g ≡ Some i → i < at_ → (d : StructDecl) → struct_in (slice_get items i) ≡ Some d → (c : Name) → cell_of (structs_of (take at_ items)) g c ≡ cell_among d.cells c
-  cell_there i e lt d h c =
+  -- the cells of the item at a struct's number
+  pub cell_there : (i : ℕ) → first_struct 0 items g ≡ Some i → i < at_ → (c : Name) → cell_of (structs_of (take at_ items)) g c ≡ cells_in (struct_in (slice_get items i)) c
+  cell_there i e lt c =
       let s = struct_at 0 (take at_ items) g i (earlier_struct i e lt) in
       let zero : i - 0 ≡ i = omega arith in
-      let same : Some s.declaration ≡ Some d = sym (ap struct_in s.stands) ∙ (ap (λ k. struct_in (slice_get (take at_ items) k)) zero ∙ (ap struct_in (get_take at_ i items lt) ∙ h)) in
+      let same : Some s.declaration ≡ struct_in (slice_get items i) = sym (ap struct_in s.stands) ∙ (ap (λ k. struct_in (slice_get (take at_ items) k)) zero ∙ ap struct_in (get_take at_ i items lt)) in
       s.cells c ∙ ap (λ (o : Option StructDecl). cells_in o c) same
-
-  -- a struct stands at its number
-  pub struct_stands : (i : ℕ) → first_struct 0 items g ≡ Some i → struct_in (slice_get items i) ≡ None → ⊥
-  struct_stands i e none =
-      let s = struct_at 0 items g i e in
-      let zero : i - 0 ≡ i = omega arith in
-      let some : Some s.declaration ≡ None = sym (ap struct_in s.stands) ∙ (ap (λ k. struct_in (slice_get items k)) zero ∙ none) in
-      cc
 
 -- ---- one more item
 

@@ -3,6 +3,7 @@ pub mod Heaviest
 pub mod Lookup
 pub mod Names
 pub mod Known
+pub mod CellMaps
 pub mod Directs
 pub mod PutFirst
 pub mod Sees

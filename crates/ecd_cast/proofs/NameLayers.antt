@@ -1,6 +1,11 @@
 -- Names that are taken in, piece by piece; how blocks end.
-use Rattle.std.proofs.Common.{◌≡◌, ℕ, suc, ◌+◌, ◌-◌, ◌<◌, List, [], ◌∷◌, ◌++◌, length, get_or, take, refl, ap, sym, ◌∙◌, subst, arith, append-nil, append_assoc, Bool, false}
-use Rattle.std.specs.Prelude.{Option, Some, None, map, not, slice_get, ◌&&◌}
+use Rattle.std.proofs.Common.{◌≡◌, ℕ, suc, ◌+◌, ◌-◌, ◌<◌, List, [], ◌∷◌, ◌++◌, length, get_or, take, refl, ap, sym, ◌∙◌, subst, arith, append-nil, append_assoc, Bool, true, false}
+use Rattle.std.specs.Prelude.{Option, Some, None, map, not, slice_get, ◌&&◌, ◌||◌, bytes_eq}
+use Rattle.std.specs.List.{list_any}
+use Rattle.std.specs.BTreeMap.{is_at}
+use Rattle.std.specs.BTreeSet.{BTreeSet, Updates, IsEmpty}
+use Rattle.std.specs.Cmp.Lexicographic.{slice_cmp}
+use Rattle.std.specs.Ordering.{nat_cmp}
 use Rattle.std.proofs.lemmas.List.{take_more}
 use denote.Ref.{Bor}
 use Rattle.ecd_cast.specs.declared.tree.Expr.{Expr}
@@ -14,12 +19,15 @@ use Rattle.ecd_cast.specs.Laws.{count_all}
 use Rattle.ecd_cast.specs.Kinds.{unless}
 use Rattle.ecd_cast.specs.Validity.{Naming, at_place, is_among, twice, named_by, named_in, named_in_row, head_names, returns, row_returns, block_returns}
 use Rattle.ecd_cast.specs.First.{Finds}
-use Rattle.ecd_cast.specs.Surroundings.{names_in}
-use Rattle.ecd_cast.specs.Names.{names_after, Named}
+use Rattle.ecd_cast.specs.Variables.{has}
+use Rattle.ecd_cast.specs.Names.{names_after, Holds, Named}
 use Rattle.ecd_cast.proofs.Layers.{count-hidden}
 use Rattle.ecd_cast.proofs.Sees.{sees_then, sees_same}
-use Rattle.ecd_cast.proofs.Known.{names-append}
+use Rattle.ecd_cast.proofs.Names.{has-put}
 use Rattle.ecd_cast.proofs.StmtLayers.{moved_on}
+
+abbrev Names : Type 0
+Names = BTreeSet (Bor (List ℕ))
 
 -- ---- pieces
 
@@ -33,20 +41,25 @@ after-append : (a b : List Naming) (e : List Name) → names_after (a ++ b) e �
 after-append [] b e = refl
 after-append (n ∷ a) b e = after-append a b (n.name ∷ e)
 
-pub named_then : {n n' n'' : List (Bor (List ℕ))} {f f' f'' : First} {a b : List Naming} → Named n f n' f' a → Named n' f' n'' f'' b → Named n f n'' f'' (a ++ b)
-named_then {n} {a = a} {b} h k = record {
-  sees = sees_same (sym (twice-append a b (names_in n))) (sees_then h.sees (sees_same (ap (λ e. twice e b) h.there) k.sees));
-  there = k.there ∙ (ap (names_after b) h.there ∙ sym (after-append a b (names_in n)));
+pub named_then : {s t u : Names} {f f' f'' : First} {a b : List Naming} → Named s f t f' a → Named t f' u f'' b → Named s f u f'' (a ++ b)
+named_then {u = u} {a = a} {b} h k = record {
+  sees = λ l e. sees_same (sym (twice-append a b l)) (sees_then (h.sees l e) (k.sees (names_after a l) (h.there l e)));
+  there = λ l e. subst (λ (m : List Name). Holds u m) (sym (after-append a b l)) (k.there (names_after a l) (h.there l e));
 }
 
-pub named_same : {n n' : List (Bor (List ℕ))} {f f' : First} {a b : List Naming} → a ≡ b → Named n f n' f' a → Named n f n' f' b
-named_same {n} {n'} {f} {f'} e h = subst (λ (l : List Naming). Named n f n' f' l) e h
+pub named_same : {s t : Names} {f f' : First} {a b : List Naming} → a ≡ b → Named s f t f' a → Named s f t f' b
+named_same {s} {t} {f} {f'} e h = subst (λ (l : List Naming). Named s f t f' l) e h
 
-pub named_one : (n n' : List (Bor (List ℕ))) (f f' : First) (x : Bor (List ℕ)) (p : Place) → Finds f f' p (unless (not (is_among (names_in n) x.now)) 6) → n' ≡ n ++ x ∷ [] → Named n f n' f' (record { name = x.now; place = p } ∷ [])
-named_one n n' f f' x p h e = record {
-  sees = sees_same (sym (append-nil (at_place p (unless (not (is_among (names_in n) x.now)) 6)))) h.sees;
-  there = ap names_in e ∙ names-append n x;
+pub named_one : (s t : Names) (f f' : First) (x : Bor (List ℕ)) (p : Place) (is_new : Bool) → is_new ≡ not (has s x.now) → Finds f f' p (unless is_new 6) → Updates (λ a b. slice_cmp nat_cmp a.now b.now) s t x true →
+    Named s f t f' (record { name = x.now; place = p } ∷ [])
+named_one s t f f' x p is_new e h u = record {
+  sees = λ l k. sees_same (ap (λ b. at_place p (unless b 6)) (e ∙ ap not (k.has_them x.now)) ∙ sym (append-nil (at_place p (unless (not (is_among l x.now)) 6)))) h.sees;
+  there = λ l k. record { has_them = λ y. has-put s t x u y ∙ ap (λ b. bytes_eq x.now y || b) (k.has_them y) };
 }
+
+-- no names yet
+pub holds_none : (s : Names) → IsEmpty s → Holds s []
+holds_none s e = record { has_them = λ x. ap (λ (ks : List (Bor (List ℕ))). list_any (λ k. is_at (λ (q : Bor (List ℕ)). slice_cmp nat_cmp x q.now) k) ks) e }
 
 -- ---- forms with parts
 

@@ -1,4 +1,4 @@
--- A number that is put under a name that has none.
+-- A value that is put under a name that has none.
 use Rattle.std.proofs.Common.{◌≡◌, ℕ, refl, ap, sym, ◌∙◌, subst, Bool, true, false}
 use Rattle.std.specs.Prelude.{Option, Some, None, if◌then◌else◌, bytes_eq, is_some, not}
 use Rattle.std.specs.BTreeMap.{BTreeMap, Updates}
@@ -10,17 +10,17 @@ use Rattle.ecd_cast.specs.Chains.{under}
 use Rattle.ecd_cast.specs.Surroundings.{or_first}
 use Rattle.ecd_cast.proofs.Names.{under-put, same-name}
 
-or_none : (o : Option ℕ) → or_first o None ≡ o
+or_none : {X : Type 0} (o : Option X) → or_first o None ≡ o
 or_none (Some n) = refl
 or_none None = refl
 
-module _ {A : Type 0} (m n : BTreeMap (Vec ℕ A) ℕ) (k : Vec ℕ A) (v : ℕ) (x : Name) where
+module _ {A X : Type 0} (m n : BTreeMap (Vec ℕ A) X) (k : Vec ℕ A) (v : X) (x : Name) where
   pub put_first : k.items ≡ x → Updates (λ a b. slice_cmp nat_cmp a.items b.items) m n k (Some v) → is_some (under m x) ≡ false → (g : Name) → under n g ≡ or_first (under m g) (if bytes_eq x g then Some v else None)
   put_first named h none g =
       let look : under n g ≡ (if bytes_eq x g then Some v else under m g) = subst (λ (l : Name). under n g ≡ (if bytes_eq l g then Some v else under m g)) named (under-put m n k v h g) in
       look ∙ by_test (bytes_eq x g) refl
     where
-      absent : (o : Option ℕ) → is_some o ≡ false → o ≡ None
+      absent : (o : Option X) → is_some o ≡ false → o ≡ None
       absent (Some w) e = absurd cc
       absent None e = refl
 
@@ -30,11 +30,11 @@ module _ {A : Type 0} (m n : BTreeMap (Vec ℕ A) ℕ) (k : Vec ℕ A) (v : ℕ)
           sym (ap (λ o. or_first o (Some v)) gone)
       by_test false t = sym (or_none (under m g))
 
--- a name that has a number keeps it
-pub there_first : {A : Type 0} (m : BTreeMap (Vec ℕ A) ℕ) (v : ℕ) (x : Name) → is_some (under m x) ≡ true → (g : Name) → under m g ≡ or_first (under m g) (if bytes_eq x g then Some v else None)
-there_first m v x some g = by_test (bytes_eq x g) refl
+-- a name that has a value keeps it
+pub there_first : {A X : Type 0} (m : BTreeMap (Vec ℕ A) X) (v : X) (x : Name) → is_some (under m x) ≡ true → (g : Name) → under m g ≡ or_first (under m g) (if bytes_eq x g then Some v else None)
+there_first {X} m v x some g = by_test (bytes_eq x g) refl
   where
-    present : (o : Option ℕ) → is_some o ≡ true → o ≡ or_first o (Some v)
+    present : (o : Option X) → is_some o ≡ true → o ≡ or_first o (Some v)
     present (Some w) e = refl
     present None e = absurd cc
 

@@ -1,25 +1,20 @@
 -- Faults and counts of statements, at each form that has parts, and one statement a turn.
 use Rattle.std.proofs.Common.{◌≡◌, ℕ, ◌+◌, ◌<◌, List, [], ◌∷◌, ◌++◌, length, get_or, take, refl, ap, sym, ◌∙◌, arith, append-nil, append_assoc}
 use Rattle.std.proofs.lemmas.List.{take_more}
-use Rattle.std.proofs.Math.Seq.{take-append_seam}
-use denote.Ref.{Bor}
 use Rattle.ecd_cast.specs.declared.tree.Expr.{Expr}
 use Rattle.ecd_cast.specs.declared.tree.Stmt.{Stmt, Row_of-Stmt, end_of-Stmt, more_of-Stmt, items-the_row-Stmt, items_hidden-the_row-Stmt-0}
 use Rattle.ecd_cast.specs.declared.tree.Stmt.TheVariants.{If, For}
 use Rattle.ecd_cast.specs.declared.tree.Stmt.TheBlock as stmts
 use Rattle.ecd_cast.specs.declared.first.First.{First}
-use Rattle.ecd_cast.specs.declared.kind.Variable.{Variable}
-use Rattle.ecd_cast.specs.declared.directory.Surroundings.{Surroundings}
 use Rattle.ecd_cast.specs.Memory.{Name}
 use Rattle.ecd_cast.specs.Meaning.{Place, shifted, count_of, count_in}
 use Rattle.ecd_cast.specs.Laws.{count_all}
 use Rattle.ecd_cast.specs.Kinds.{ANumber, ATruth, Known, kind_in, broken_as, asked}
 use Rattle.ecd_cast.specs.Validity.{Around, in_loop, at_place, known_after, stmt_faults, row_faults, block_faults}
 use Rattle.ecd_cast.specs.First.{Sees}
-use Rattle.ecd_cast.specs.Surroundings.{known_in, names_in, around_as, known_behind, own_rules, Declares}
+use Rattle.ecd_cast.specs.Surroundings.{known_behind, own_rules}
 use Rattle.ecd_cast.proofs.Layers.{count-hidden}
 use Rattle.ecd_cast.proofs.Sees.{sees_then, sees_same}
-use Rattle.ecd_cast.proofs.Known.{names-append}
 
 -- ---- forms with parts
 
@@ -46,12 +41,6 @@ count-If t ys ns = λ i. 1 + count-hidden ys i + count-hidden ns i
 
 pub count-For : (x b : Name) (body : List Stmt) → count_of (For x b body) ≡ 1 + count_all body
 count-For x b body = λ i. 1 + count-hidden body i
-
-pub looped : (s : Surroundings) (loops : List (Bor (List ℕ))) (b x : Bor (List ℕ)) → around_as s (loops ++ b ∷ [] ++ x ∷ []) ≡ in_loop (around_as s loops) x.now b.now
-looped s loops b x = λ i. record (around_as s loops) { loops = names i }
-  where
-    names : names_in (loops ++ b ∷ [] ++ x ∷ []) ≡ x.now ∷ b.now ∷ names_in loops
-    names = names-append (loops ++ b ∷ []) x ∙ ap (λ (l : List Name). x.now ∷ l) (names-append loops b)
 
 -- ---- one more statement
 
@@ -101,20 +90,3 @@ module _ (xs : List Stmt) (i : ℕ) (s : Stmt) (h : i < length xs) (e : s ≡ ge
       other ≡ around → now ≡ known_behind (take i xs) known → q ≡ shifted p (count_all (take i xs)) → Sees a c (block_faults around known (take (i + 1) xs) p)
   sees_more around other known now p q k l same kinds place =
       sees_same (sym (faults-more around known p)) (sees_then k (sees_same (λ j. stmt_faults (same j) (kinds j) s (place j)) l))
-
--- ---- variables that are declared
-
-pub kept_then : {X : Type 0} (a b c : List X) → take (length a) b ≡ a → take (length b) c ≡ b → take (length a) c ≡ a
-kept_then [] b c h k = refl
-kept_then (x ∷ a) [] c h k = absurd cc
-kept_then (x ∷ a) (y ∷ b) [] h k = absurd cc
-kept_then (x ∷ a) (y ∷ b) (z ∷ c) h k =
-    let first : y ≡ x = cc in
-    let inner : take (length a) b ≡ a = cc in
-    let second : z ≡ y = cc in
-    let outer : take (length b) c ≡ b = cc in
-    let rest = kept_then a b c inner outer in
-    cc
-
-pub declared : (s : Stmt) (old : List Variable) (v : Variable) (new : List Variable) → new ≡ old ++ v ∷ [] → known_after s (known_in old) ≡ known_in (old ++ v ∷ []) → Declares s old new
-declared s old v new e k = record { known = ap known_in e ∙ sym k; kept = ap (take (length old)) e ∙ take-append_seam old (v ∷ []) }

@@ -9,6 +9,7 @@ pub mod Chains
 pub mod Lookup
 pub mod Built
 pub mod First
+pub mod Variables
 pub mod Surroundings
 pub mod Names
 pub mod Causes

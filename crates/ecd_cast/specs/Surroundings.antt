@@ -1,6 +1,7 @@
 -- What a program's judge keeps of what stands round a statement, as the definitions have it.
 use Rattle.std.specs.Prelude.{ℕ, ◌+◌, not, flat_map, ◌≡◌, ◌<◌, ◌^◌, Bool, true, false, if◌then◌else◌, List, [], ◌∷◌, ◌++◌, Option, Some, None, bytes_eq, length, take, drop}
-use denote.Ref.{Bor}
+use Rattle.std.specs.BTreeMap.{BTreeMap}
+use Rattle.std.specs.declared.vec.Vec.{Vec}
 use Rattle.ecd_cast.specs.declared.tree.CItem.{CItem}
 use Rattle.ecd_cast.specs.declared.tree.CItem.TheVariants.{Struct as AStructDecl, Function as AFunction}
 use Rattle.ecd_cast.specs.declared.tree.StructDecl.{StructDecl}
@@ -11,15 +12,13 @@ use Rattle.ecd_cast.specs.declared.directory.Directory.{Directory}
 use Rattle.ecd_cast.specs.declared.directory.Surroundings.{Surroundings}
 use Rattle.ecd_cast.specs.declared.directory.Found.{Found}
 use Rattle.ecd_cast.specs.declared.tree.Function.{Function}
-use Rattle.ecd_cast.specs.declared.kind.Kind.{Kind as Seen}
-use Rattle.ecd_cast.specs.declared.kind.Kind.TheVariants.{Number, Truth, ReadPointer, WritePointer, Unknown as NoKind, Struct}
 use Rattle.ecd_cast.specs.declared.tree.CellKind.{CellKind}
 use Rattle.ecd_cast.specs.declared.tree.CellKind.TheVariants.{Number as NumberCell, Pointer as PointerCell}
-use Rattle.ecd_cast.specs.declared.kind.Variable.{Variable}
 use Rattle.ecd_cast.specs.Memory.{Name}
-use Rattle.ecd_cast.specs.Kinds.{Kind, ANumber, ATruth, AReadPointer, AWritePointer, Unknown, AStruct, Known, takes, param_kind, unless, kind_in, member, broken_as, asked, asked_cell}
+use Rattle.ecd_cast.specs.Kinds.{Kind, ANumber, ATruth, AReadPointer, AWritePointer, Known, takes, param_kind, unless, kind_in, member, cell_among, broken_as, asked, asked_cell}
 use Rattle.ecd_cast.specs.Validity.{Around, structs_of, functions_of, function_named, known_after, source_broken, assignable, assigned_kind, is_among, param_broken, struct_names, function_names, block_returns}
 use Rattle.ecd_cast.specs.Chains.{under}
+use Rattle.ecd_cast.specs.Variables.{names_of}
 
 -- ---- the numbers of functions and structs
 
@@ -34,20 +33,9 @@ first_struct n [] g = None
 first_struct n (AStructDecl s ∷ is) g = if bytes_eq s.name g then Some n else first_struct (n + 1) is g
 first_struct n (AFunction f ∷ is) g = first_struct (n + 1) is g
 
-abbrev pub or_first : Option ℕ → Option ℕ → Option ℕ
+abbrev pub or_first : {X : Type 0} → Option X → Option X → Option X
 or_first (Some n) o = Some n
 or_first None o = o
-
--- the directory has the first item of each name
-pub record Directs (items : List CItem) (d : Directory) : Type 0 where
-  pub functions_are : (g : Name) → under d.functions g ≡ first_function 0 items g
-  pub structs_are : (g : Name) → under d.structs g ≡ first_struct 0 items g
-
--- the surroundings of an item that is there
-pub record Surrounds (s : Surroundings) : Type 0 where
-  pub directs : Directs s.items.now s.directory.now
-  pub there : s.at_ < length s.items.now
-  pub few : length s.items.now < 2 ^ 32
 
 abbrev pub struct_in : Option CItem → Option StructDecl
 struct_in (Some (AStructDecl s)) = Some s
@@ -59,34 +47,40 @@ function_in (Some (AStructDecl s)) = None
 function_in (Some (AFunction f)) = Some f
 function_in None = None
 
--- ---- kinds and variables
-
-abbrev pub kind_as : Seen → Kind
-kind_as Number = ANumber
-kind_as Truth = ATruth
-kind_as ReadPointer = AReadPointer
-kind_as WritePointer = AWritePointer
-kind_as NoKind = Unknown
-kind_as (Struct s) = AStruct s.now
-
-abbrev pub kind_if : Option Seen → Option Kind
-kind_if None = None
-kind_if (Some k) = Some (kind_as k)
+-- ---- cells
 
 abbrev pub cell_kind : CellKind → Kind
 cell_kind NumberCell = ANumber
 cell_kind PointerCell = AReadPointer
 
--- the variable that was known last stands first
-abbrev pub known_in : List Variable → Known
-known_in [] = []
-known_in (v ∷ vs) = known_in vs ++ (v.name.now, kind_as v.kind) ∷ []
+-- the cells of an item, which only a struct has
+abbrev pub cells_in : Option StructDecl → Name → Option Kind
+cells_in None c = None
+cells_in (Some s) c = cell_among s.cells c
 
-abbrev pub names_in : List (Bor (List ℕ)) → List Name
-names_in [] = []
-names_in (n ∷ ns) = names_in ns ++ n.now ∷ []
+abbrev pub cell_if : Option CellKind → Option Kind
+cell_if None = None
+cell_if (Some k) = Some (cell_kind k)
+
+-- each item's map has the first cell of each name
+abbrev pub HasCells : {A : Type 0} → List CItem → List (BTreeMap (Vec ℕ A) CellKind) → Type 0
+HasCells [] [] = Unit {0}
+HasCells (i ∷ is) (m ∷ ms) = ((c : Name) → cell_if (under m c) ≡ cells_in (struct_in (Some i)) c) × HasCells is ms
+HasCells _ _ = ⊥
 
 -- ---- surroundings
+
+-- the directory has the first item of each name
+pub record Directs (items : List CItem) (d : Directory) : Type 0 where
+  pub functions_are : (g : Name) → under d.functions g ≡ first_function 0 items g
+  pub structs_are : (g : Name) → under d.structs g ≡ first_struct 0 items g
+
+-- the surroundings of an item that is there
+pub record Surrounds (s : Surroundings) : Type 0 where
+  pub directs : Directs s.items.now s.directory.now
+  pub cells : HasCells s.items.now s.directory.now.cells.items
+  pub there : s.at_ < length s.items.now
+  pub few : length s.items.now < 2 ^ 32
 
 abbrev pub IsFoundAs : List Function → List Function → Name → Function → Bool → Type 0
 IsFoundAs earlier later g f true = function_named earlier g ≡ Some f
@@ -95,12 +89,13 @@ IsFoundAs earlier later g f false = (function_named earlier g ≡ None) × (func
 abbrev pub structs_before : Surroundings → List StructDecl
 structs_before s = structs_of (take s.at_ s.items.now)
 
-abbrev pub around_as : Surroundings → List (Bor (List ℕ)) → Around
+-- what stands round a statement, by the variables and bounds of the loops round it
+abbrev pub around_as : Surroundings → Known → Around
 around_as s loops = record {
   structs = structs_before s;
   earlier = functions_of (take s.at_ s.items.now);
   later = functions_of (drop s.at_ s.items.now);
-  loops = names_in loops;
+  loops = names_of loops;
 }
 
 -- the function of a name in the whole file, and whether it stands before the item
@@ -125,11 +120,6 @@ takes_at None k = false
 abbrev pub known_behind : List Stmt → Known → Known
 known_behind [] known = known
 known_behind (s ∷ rest) known = known_behind rest (known_after s known)
-
--- a name that a statement declares is known behind it, and the others stay
-pub record Declares (stmt : Stmt) (old new : List Variable) : Type 0 where
-  pub known : known_in new ≡ known_after stmt (known_in old)
-  pub kept : take (length old) new ≡ old
 
 -- the rules that a statement breaks by itself, without those inside it
 abbrev pub own_rules : Around → Known → Stmt → List ℕ

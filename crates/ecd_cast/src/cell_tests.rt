@@ -67,7 +67,7 @@ fn out(alloc: Global) -> Result<Param, OutOfMemory>
     Ok(Param { name, kind })
 }
 
-fn only_out(alloc: Global) -> Result<ParamList, OutOfMemory>
+pub(crate) fn only_out(alloc: Global) -> Result<ParamList, OutOfMemory>
     ensures some { IfOk result (λ ps. 0 < length ps) }
     ensures spelled { IfOk result (λ ps. AreSpelledParams ps) }
 {
@@ -86,7 +86,7 @@ fn block_of(alloc: Global, first: Stmt, second: Stmt) -> Result<StmtList, OutOfM
 }
 
 /// `uint64_t name(params) { body }`
-fn fill(name: Name, params: ParamList, body: StmtList) -> CItem
+pub(crate) fn fill(name: Name, params: ParamList, body: StmtList) -> CItem
     requires name { IsName name }
     requires some { 0 < length params }
     requires params { AreSpelledParams params }

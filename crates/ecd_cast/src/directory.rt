@@ -6,10 +6,13 @@ ghost use Rattle.ecd_cast.specs.Memory.{Name};
 ghost use Rattle.ecd_cast.specs.Kinds.{cell_of};
 ghost use Rattle.ecd_cast.specs.Validity.{is_among, struct_names, function_names};
 ghost use Rattle.ecd_cast.specs.Chains.{under};
-ghost use Rattle.ecd_cast.specs.Surroundings.{Directs, Surrounds, kind_if, structs_before, IsFound, or_first, struct_in, function_in};
+ghost use Rattle.ecd_cast.specs.Surroundings.{Directs, HasCells, Surrounds, structs_before, IsFound, function_in};
+ghost use Rattle.ecd_cast.specs.Variables.{kind_if};
 
-use crate::kind::{Kind, cell_among};
-use crate::tree::{CItem, Function, StructDecl};
+use crate::by_name::put_first;
+use crate::cells::{Cells, cells_by_item};
+use crate::kind::Kind;
+use crate::tree::{CItem, Function};
 use ecd_list::OutOfMemory;
 use std::alloc::Global;
 use std::collections::BTreeMap;
@@ -17,11 +20,12 @@ use std::collections::BTreeMap;
 /// Item numbers under names.
 type Numbers = BTreeMap<Vec<u8>, u32>;
 
-/// The number of the first function, and of the first struct, of each name.
+/// The number of the first function, and of the first struct, of each name; and the cells of each item.
 #[derive(Debug, Drop)]
 pub(crate) struct Directory {
     functions: Numbers,
     structs: Numbers,
+    cells: Vec<Cells>,
 }
 
 /// What stands round the item that is judged.
@@ -45,11 +49,13 @@ impl Directory {
     /// The directory of these items.
     pub(crate) fn of(alloc: Global, items: &[CItem]) -> Result<Directory, OutOfMemory>
         requires { length items.now < 2 ^ 32 }
-        ensures { IfOk result (λ d. Directs items.now d) }
+        ensures directs { IfOk result (λ d. Directs items.now d) }
+        ensures cells { IfOk result (λ d. HasCells items.now d.cells.items) }
     {
         let mut directory = Directory {
             functions: BTreeMap::new(alloc),
             structs: BTreeMap::new(alloc),
+            cells: cells_by_item(alloc, items)?,
         };
         let mut at = 0u32;
         for item in items {
@@ -75,25 +81,6 @@ impl Directory {
         }
         Ok(directory)
     }
-}
-
-/// Puts a number under a name that has none.
-fn put_first(
-    alloc: Global,
-    numbers: &mut Numbers,
-    name: &[u8],
-    number: u32,
-) -> Result<(), OutOfMemory>
-    ensures { OnOk result ((g : Name) → under numbers.new g ≡ or_first (under numbers.old g) (if bytes_eq name.now g then Some number else None)) }
-{
-    if !numbers.contains_key(name) {
-        let key = Vec::from_slice(alloc, name)?;
-        match numbers.insert(key, number) {
-            Ok(_) => {}
-            Err(_) => return Err(OutOfMemory),
-        }
-    }
-    Ok(())
 }
 
 impl<'a> Surroundings<'a> {
@@ -128,8 +115,9 @@ impl<'a> Surroundings<'a> {
         if number >= self.at_ {
             return None;
         }
-        let declaration = struct_numbered(self.items, number)?;
-        cell_among(declaration.cells.as_slice(), cell)
+        let cells = cells_numbered(self.directory.cells.as_slice(), number)?;
+        let kind = cells.get(cell)?;
+        Some(Kind::of_cell(*kind))
     }
 
     /// The function of this name in the whole file.
@@ -146,14 +134,11 @@ impl<'a> Surroundings<'a> {
     }
 }
 
-/// The struct of this item number.
-fn struct_numbered<'a>(items: &'a [CItem], number: u32) -> Option<&'a StructDecl>
-    ensures { option_copied result ≡ struct_in (slice_get items.now number) }
+/// The cells of the item of this number.
+fn cells_numbered<'a>(cells: &'a [Cells], number: u32) -> Option<&'a Cells>
+    ensures { option_copied result ≡ slice_get cells.now number }
 {
-    match items.get(number as usize) {
-        Some(CItem::Struct(declaration)) => Some(declaration),
-        Some(CItem::Function(_)) | None => None,
-    }
+    cells.get(number as usize)
 }
 
 /// The function of this item number.

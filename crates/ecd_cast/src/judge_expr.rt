@@ -3,29 +3,31 @@
 ghost use Rattle.std.specs.Prelude.{◌≡◌, IfOk, OnOk};
 ghost use Rattle.ecd_cast.specs.Kinds.{kind_of, broken_by, member, asked_pointer, asked_cell, kind_in, unless_known, or_unknown};
 ghost use Rattle.ecd_cast.specs.First.{Finds, place_as};
-ghost use Rattle.ecd_cast.specs.Surroundings.{Surrounds, kind_as, known_in, structs_before};
+ghost use Rattle.ecd_cast.specs.Surroundings.{Surrounds, structs_before};
+ghost use Rattle.ecd_cast.specs.Variables.{kind_as};
 
 use crate::directory::Surroundings;
 use crate::first::{First, Spot};
-use crate::kind::{Kind, Variable, kind_in};
+use crate::kind::Kind;
 use crate::tree::Expr;
+use crate::variables::Variables;
 use ecd_list::OutOfMemory;
 
 /// What an expression is judged by: what stands round its statement, the variables that are known there, and where it stands.
 #[derive(Clone, Copy)]
 pub(crate) struct Scene<'s, 'a> {
     pub(crate) around: &'s Surroundings<'a>,
-    pub(crate) known: &'s [Variable<'a>],
+    pub(crate) known: &'s Variables<'a>,
     /// The variables and bounds of the loops around.
-    pub(crate) loops: &'s [&'a [u8]],
+    pub(crate) loops: &'s Variables<'a>,
     pub(crate) spot: Spot,
 }
 
 /// A variable that loads go through.
 fn judge_pointer(scene: &Scene, first: &mut First, name: &[u8])
-    ensures { Finds first.old first.new (place_as scene.now.spot) (asked_pointer (kind_in (known_in scene.now.known.now) name.now)) }
+    ensures { Finds first.old first.new (place_as scene.now.spot) (asked_pointer (kind_in scene.now.known.now name.now)) }
 {
-    match kind_in(scene.known, name) {
+    match scene.known.kind_of(name) {
         Some(Kind::ReadPointer) | Some(Kind::WritePointer) | Some(Kind::Unknown) => {}
         Some(_) => first.note(scene.spot, 2),
         None => first.note(scene.spot, 1),
@@ -40,10 +42,10 @@ pub(crate) fn judge_cell<'a>(
     cell: &[u8],
 ) -> Kind<'a>
     requires { Surrounds scene.now.around.now }
-    ensures faults { Finds first.old first.new (place_as scene.now.spot) (asked_cell (structs_before scene.now.around.now) (kind_in (known_in scene.now.known.now) name.now) cell.now) }
-    ensures kind { kind_as result ≡ member (structs_before scene.now.around.now) (kind_in (known_in scene.now.known.now) name.now) cell.now }
+    ensures faults { Finds first.old first.new (place_as scene.now.spot) (asked_cell (structs_before scene.now.around.now) (kind_in scene.now.known.now name.now) cell.now) }
+    ensures kind { kind_as result ≡ member (structs_before scene.now.around.now) (kind_in scene.now.known.now name.now) cell.now }
 {
-    match kind_in(scene.known, name) {
+    match scene.known.kind_of(name) {
         Some(Kind::Struct(declaration)) => match scene.around.cell(declaration, cell) {
             Some(kind) => kind,
             None => {
@@ -65,10 +67,10 @@ pub(crate) fn judge_cell<'a>(
 
 /// The kind of a variable.
 fn judge_variable<'a>(scene: &Scene<'_, 'a>, first: &mut First, name: &[u8]) -> Kind<'a>
-    ensures faults { Finds first.old first.new (place_as scene.now.spot) (unless_known (kind_in (known_in scene.now.known.now) name.now)) }
-    ensures kind { kind_as result ≡ or_unknown (kind_in (known_in scene.now.known.now) name.now) }
+    ensures faults { Finds first.old first.new (place_as scene.now.spot) (unless_known (kind_in scene.now.known.now name.now)) }
+    ensures kind { kind_as result ≡ or_unknown (kind_in scene.now.known.now name.now) }
 {
-    match kind_in(scene.known, name) {
+    match scene.known.kind_of(name) {
         Some(kind) => kind,
         None => {
             first.note(scene.spot, 1);
@@ -85,8 +87,8 @@ pub(crate) fn judge_expr<'a>(
     levels: u32,
 ) -> Result<Kind<'a>, OutOfMemory>
     requires { Surrounds scene.now.around.now }
-    ensures faults { OnOk result (Finds first.old first.new (place_as scene.now.spot) (broken_by (structs_before scene.now.around.now) (known_in scene.now.known.now) expr.now)) }
-    ensures kind { IfOk result (λ k. kind_as k ≡ kind_of (structs_before scene.now.around.now) (known_in scene.now.known.now) expr.now) }
+    ensures faults { OnOk result (Finds first.old first.new (place_as scene.now.spot) (broken_by (structs_before scene.now.around.now) scene.now.known.now expr.now)) }
+    ensures kind { IfOk result (λ k. kind_as k ≡ kind_of (structs_before scene.now.around.now) scene.now.known.now expr.now) }
 {
     let deeper = levels.checked_sub(1).ok_or(OutOfMemory)?;
     match expr {

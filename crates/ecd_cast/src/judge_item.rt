@@ -4,7 +4,7 @@ ghost use Rattle.std.specs.Prelude.{◌≡◌, ◌+◌, ◌<◌, ◌^◌, [], �
 ghost use Rattle.ecd_cast.specs.declared.tree.CItem.TheVariants.{Struct as AStructDecl, Function as AFunction};
 ghost use Rattle.ecd_cast.specs.Validity.{param_broken, struct_names, params_known, item_faults, faults_from};
 ghost use Rattle.ecd_cast.specs.First.{Sees, Finds, place_as};
-ghost use Rattle.ecd_cast.specs.Surroundings.{Directs, Surrounds, known_in, head_rules};
+ghost use Rattle.ecd_cast.specs.Surroundings.{Directs, HasCells, Surrounds, head_rules};
 
 use crate::chains::MOST_LEVELS;
 use crate::directory::{Directory, Surroundings};
@@ -14,8 +14,10 @@ use crate::judge_names::{name_block, name_cells, name_params};
 use crate::judge_stmt::{Scope, judge_block};
 use crate::kind::Kind;
 use crate::tree::{CItem, Function, Param, ParamKind, StructDecl};
+use crate::variables::Variables;
 use ecd_list::OutOfMemory;
 use std::alloc::Global;
+use std::collections::BTreeSet;
 
 /// The struct of a parameter.
 fn judge_param(around: &Surroundings, first: &mut First, spot: Spot, kind: &ParamKind)
@@ -42,16 +44,18 @@ fn judge_params(around: &Surroundings, first: &mut First, spot: Spot, params: &[
 
 /// What is known where a function begins. Of two parameters of one name the first counts.
 fn scope_of<'a>(alloc: Global, params: &'a [Param]) -> Result<Scope<'a>, OutOfMemory>
-    ensures known { IfOk result (λ s. known_in s.known.items ≡ params_known params.now) }
-    ensures loops { IfOk result (λ s. s.loops.items ≡ []) }
+    ensures known { IfOk result (λ s. s.known ≡ params_known params.now) }
+    ensures loops { IfOk result (λ s. s.loops ≡ []) }
 {
     let mut scope = Scope {
-        known: Vec::new(alloc),
-        loops: Vec::new(alloc),
+        known: Variables::new(alloc),
+        loops: Variables::new(alloc),
     };
     for number in (0..params.len()).rev() {
         let param = &params[number];
-        scope.declare(param.name.as_slice(), Kind::of_param(&param.kind))?;
+        scope
+            .known
+            .declare(param.name.as_slice(), Kind::of_param(&param.kind))?;
     }
     Ok(scope)
 }
@@ -70,7 +74,7 @@ fn judge_struct(
     };
     let is_known = around.knows_struct(declaration.name.as_slice());
     first.unless(!is_known, head, 6);
-    let mut names = Vec::new(around.alloc);
+    let mut names = BTreeSet::new(around.alloc);
     name_cells(first, &mut names, head, declaration.cells.as_slice())?;
     Ok(())
 }
@@ -110,7 +114,7 @@ fn judge_function(
         statement: 1,
     };
     judge_head(around, first, head, function)?;
-    let mut names = Vec::new(around.alloc);
+    let mut names = BTreeSet::new(around.alloc);
     name_params(first, &mut names, head, function.params.as_slice())?;
     name_block(
         first,
@@ -139,6 +143,7 @@ pub(crate) fn judge_items(
     first: &mut First,
 ) -> Result<(), OutOfMemory>
     requires directs { Directs items.now directory.now }
+    requires cells { HasCells items.now directory.now.cells.items }
     requires few { length items.now < 2 ^ 32 }
     ensures { OnOk result (Sees first.old first.new (faults_from [] items.now 0)) }
 {

@@ -8,32 +8,35 @@ ghost use Rattle.ecd_cast.specs.First.{place_as};
 ghost use Rattle.ecd_cast.specs.Names.{Named};
 
 use crate::first::{First, Spot};
-use crate::judge_stmt::is_among;
 use crate::tree::{CellInfo, Param, Stmt};
 use ecd_list::OutOfMemory;
+use std::collections::BTreeSet;
+
+/// The names so far.
+pub(crate) type Names<'a> = BTreeSet<&'a [u8]>;
 
 /// A name, which the earlier ones may have already.
 fn name_one<'a>(
     first: &mut First,
-    names: &mut Vec<&'a [u8]>,
+    names: &mut Names<'a>,
     spot: Spot,
     name: &'a [u8],
 ) -> Result<(), OutOfMemory>
-    ensures { OnOk result (Named names.old.items first.old names.new.items first.new (record { name = name.entry.now; place = place_as spot } ∷ [])) }
+    ensures { OnOk result (Named names.old first.old names.new first.new (record { name = name.entry.now; place = place_as spot } ∷ [])) }
 {
-    first.unless(!is_among(names.as_slice(), name), spot, 6);
-    names.push(name)?;
+    let is_new = names.insert(name)?;
+    first.unless(is_new, spot, 6);
     Ok(())
 }
 
 /// The names of parameters.
 pub(crate) fn name_params<'a>(
     first: &mut First,
-    names: &mut Vec<&'a [u8]>,
+    names: &mut Names<'a>,
     spot: Spot,
     params: &'a [Param],
 ) -> Result<(), OutOfMemory>
-    ensures { OnOk result (Named names.old.items first.old names.new.items first.new (head_names (place_as spot) (map (λ q. q.name) params.now))) }
+    ensures { OnOk result (Named names.old first.old names.new first.new (head_names (place_as spot) (map (λ q. q.name) params.now))) }
 {
     for param in params {
         name_one(first, names, spot, param.name.as_slice())?;
@@ -44,11 +47,11 @@ pub(crate) fn name_params<'a>(
 /// The names of cells.
 pub(crate) fn name_cells<'a>(
     first: &mut First,
-    names: &mut Vec<&'a [u8]>,
+    names: &mut Names<'a>,
     spot: Spot,
     cells: &'a [CellInfo],
 ) -> Result<(), OutOfMemory>
-    ensures { OnOk result (Named names.old.items first.old names.new.items first.new (head_names (place_as spot) (map (λ c. c.name) cells.now))) }
+    ensures { OnOk result (Named names.old first.old names.new first.new (head_names (place_as spot) (map (λ c. c.name) cells.now))) }
 {
     for cell in cells {
         name_one(first, names, spot, cell.name.as_slice())?;
@@ -60,12 +63,12 @@ pub(crate) fn name_cells<'a>(
 #[cycle(names)]
 pub(crate) fn name_block<'a>(
     first: &mut First,
-    names: &mut Vec<&'a [u8]>,
+    names: &mut Names<'a>,
     spot: Spot,
     stmts: &'a [Stmt],
     levels: u32,
 ) -> Result<u32, OutOfMemory>
-    ensures named { OnOk result (Named names.old.items first.old names.new.items first.new (named_in stmts.now (place_as spot))) }
+    ensures named { OnOk result (Named names.old first.old names.new first.new (named_in stmts.now (place_as spot))) }
     ensures next { IfOk result (λ n. n ≡ spot.statement + count_all stmts.now) }
 {
     let deeper = levels.checked_sub(1).ok_or(OutOfMemory)?;
@@ -83,12 +86,12 @@ pub(crate) fn name_block<'a>(
 #[cycle(names)]
 fn name_stmt<'a>(
     first: &mut First,
-    names: &mut Vec<&'a [u8]>,
+    names: &mut Names<'a>,
     spot: Spot,
     stmt: &'a Stmt,
     levels: u32,
 ) -> Result<u32, OutOfMemory>
-    ensures named { OnOk result (Named names.old.items first.old names.new.items first.new (named_by stmt.now (place_as spot))) }
+    ensures named { OnOk result (Named names.old first.old names.new first.new (named_by stmt.now (place_as spot))) }
     ensures next { IfOk result (λ n. n ≡ spot.statement + count_of stmt.now) }
 {
     let inner = spot.statement.checked_add(1).ok_or(OutOfMemory)?;

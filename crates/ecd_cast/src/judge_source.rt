@@ -4,13 +4,14 @@ ghost use Rattle.std.specs.Prelude.{◌≡◌, IfOk, OnOk, flat_map, slice_get};
 ghost use Rattle.ecd_cast.specs.Kinds.{broken_by, broken_as, args_fit, asked, kind_in};
 ghost use Rattle.ecd_cast.specs.Validity.{source_broken};
 ghost use Rattle.ecd_cast.specs.First.{Finds, place_as};
-ghost use Rattle.ecd_cast.specs.Surroundings.{Surrounds, kind_as, known_in, structs_before, around_as, called_broken, takes_at, params_in};
+ghost use Rattle.ecd_cast.specs.Surroundings.{Surrounds, structs_before, around_as, called_broken, takes_at, params_in};
+ghost use Rattle.ecd_cast.specs.Variables.{kind_as};
 
 use crate::chains::MOST_LEVELS;
 use crate::directory::Found;
 use crate::first::{First, Spot};
 use crate::judge_expr::{Scene, judge_expr};
-use crate::kind::{Kind, kind_in};
+use crate::kind::Kind;
 use crate::tree::{Expr, Param, Source};
 use ecd_list::OutOfMemory;
 
@@ -22,7 +23,7 @@ pub(crate) fn judge_as<'a>(
     expr: &Expr,
 ) -> Result<(), OutOfMemory>
     requires { Surrounds scene.now.around.now }
-    ensures { OnOk result (Finds first.old first.new (place_as scene.now.spot) (broken_as (kind_as asked.entry) (structs_before scene.now.around.now) (known_in scene.now.known.now) expr.now)) }
+    ensures { OnOk result (Finds first.old first.new (place_as scene.now.spot) (broken_as (kind_as asked.entry) (structs_before scene.now.around.now) scene.now.known.now expr.now)) }
 {
     let kind = judge_expr(scene, first, expr, MOST_LEVELS)?;
     first.unless(asked.takes(kind), scene.spot, 2);
@@ -31,9 +32,9 @@ pub(crate) fn judge_as<'a>(
 
 /// A variable that has to be of a kind.
 pub(crate) fn judge_asked(scene: &Scene, first: &mut First, kind: Kind, name: &[u8])
-    ensures { Finds first.old first.new (place_as scene.now.spot) (asked (kind_as kind.entry) (kind_in (known_in scene.now.known.now) name.now)) }
+    ensures { Finds first.old first.new (place_as scene.now.spot) (asked (kind_as kind.entry) (kind_in scene.now.known.now name.now)) }
 {
-    match kind_in(scene.known, name) {
+    match scene.known.kind_of(name) {
         Some(got) => first.unless(kind.takes(got), scene.spot, 2),
         None => first.note(scene.spot, 1),
     }
@@ -57,8 +58,8 @@ fn judge_args(
     args: &[Expr],
 ) -> Result<bool, OutOfMemory>
     requires { Surrounds scene.now.around.now }
-    ensures faults { OnOk result (Finds first.old first.new (place_as scene.now.spot) (flat_map (broken_by (structs_before scene.now.around.now) (known_in scene.now.known.now)) args.now)) }
-    ensures fit { IfOk result (λ b. b ≡ args_fit (structs_before scene.now.around.now) (known_in scene.now.known.now) params.now args.now) }
+    ensures faults { OnOk result (Finds first.old first.new (place_as scene.now.spot) (flat_map (broken_by (structs_before scene.now.around.now) scene.now.known.now) args.now)) }
+    ensures fit { IfOk result (λ b. b ≡ args_fit (structs_before scene.now.around.now) scene.now.known.now params.now args.now) }
 {
     let mut fit = true;
     for (number, arg) in args.iter().enumerate() {
@@ -100,7 +101,7 @@ pub(crate) fn judge_source<'a>(
     from: &Source,
 ) -> Result<(), OutOfMemory>
     requires { Surrounds scene.now.around.now }
-    ensures { OnOk result (Finds first.old first.new (place_as scene.now.spot) (source_broken (around_as scene.now.around.now scene.now.loops.now) (known_in scene.now.known.now) (kind_as asked.entry) from.now)) }
+    ensures { OnOk result (Finds first.old first.new (place_as scene.now.spot) (source_broken (around_as scene.now.around.now scene.now.loops.now) scene.now.known.now (kind_as asked.entry) from.now)) }
 {
     match from {
         Source::Value(value) => judge_as(scene, first, asked, value),

@@ -1,27 +1,29 @@
 //! The rules that statements break.
 
-ghost use Rattle.std.specs.Prelude.{◌≡◌, ◌+◌, ◌++◌, [], ◌∷◌, IfOk, OnOk};
+ghost use Rattle.std.specs.Prelude.{◌≡◌, ◌+◌, ◌∷◌, IfOk, OnOk};
 ghost use Rattle.ecd_cast.specs.declared.tree.Stmt.TheVariants.{Assign as AnAssignment};
-ghost use Rattle.ecd_cast.specs.declared.kind.Kind.TheVariants.{Number as ANumber};
 ghost use Rattle.ecd_cast.specs.Meaning.{count_of};
 ghost use Rattle.ecd_cast.specs.Laws.{count_all};
-ghost use Rattle.ecd_cast.specs.Validity.{stmt_faults, block_faults, assigned_kind, assignable, is_among};
+ghost use Rattle.ecd_cast.specs.Kinds.{ANumber};
+ghost use Rattle.ecd_cast.specs.Validity.{stmt_faults, block_faults, known_after, assigned_kind, assignable};
 ghost use Rattle.ecd_cast.specs.First.{Sees, Finds, place_as};
-ghost use Rattle.ecd_cast.specs.Surroundings.{Surrounds, kind_as, kind_if, known_in, names_in, around_as, Declares, own_rules};
+ghost use Rattle.ecd_cast.specs.Surroundings.{Surrounds, around_as, own_rules};
+ghost use Rattle.ecd_cast.specs.Variables.{kind_as, kind_if};
 
 use crate::directory::Surroundings;
 use crate::first::{First, Spot};
 use crate::judge_expr::{Scene, judge_cell};
 use crate::judge_source::{judge_as, judge_asked, judge_source};
-use crate::kind::{Kind, Variable, kind_in};
+use crate::kind::Kind;
 use crate::tree::{Source, Stmt};
+use crate::variables::Variables;
 use ecd_list::OutOfMemory;
 
 /// What is known at a statement: variables, and the variables and bounds of the loops around.
 #[derive(Drop)]
 pub(crate) struct Scope<'a> {
-    pub(crate) known: Vec<Variable<'a>>,
-    pub(crate) loops: Vec<&'a [u8]>,
+    pub(crate) known: Variables<'a>,
+    pub(crate) loops: Variables<'a>,
 }
 
 /// What an assignment to a variable of this kind takes.
@@ -46,17 +48,6 @@ fn judge_assignable(first: &mut First, spot: Spot, kind: Option<Kind>)
     }
 }
 
-/// Whether a name is among these.
-pub(crate) fn is_among(names: &[&[u8]], name: &[u8]) -> bool
-    ensures { result ≡ is_among (names_in names.now) name.now }
-{
-    let mut found = false;
-    for other in names {
-        found = found | (*other == name);
-    }
-    found
-}
-
 /// `name = from;`
 fn judge_assign(
     scene: &Scene,
@@ -65,19 +56,19 @@ fn judge_assign(
     from: &Source,
 ) -> Result<(), OutOfMemory>
     requires { Surrounds scene.now.around.now }
-    ensures { OnOk result (Finds first.old first.new (place_as scene.now.spot) (own_rules (around_as scene.now.around.now scene.now.loops.now) (known_in scene.now.known.now) (AnAssignment name.now from.now))) }
+    ensures { OnOk result (Finds first.old first.new (place_as scene.now.spot) (own_rules (around_as scene.now.around.now scene.now.loops.now) scene.now.known.now (AnAssignment name.now from.now))) }
 {
-    let kind = kind_in(scene.known, name);
+    let kind = scene.known.kind_of(name);
     judge_assignable(first, scene.spot, kind);
     judge_source(scene, first, assigned_kind(kind), from)?;
-    first.unless(!is_among(scene.loops, name), scene.spot, 4);
+    first.unless(!scene.loops.has(name), scene.spot, 4);
     Ok(())
 }
 
 /// Takes in the rules that a statement breaks by itself, without those inside it.
 fn judge_own(scene: &Scene, first: &mut First, stmt: &Stmt) -> Result<(), OutOfMemory>
     requires { Surrounds scene.now.around.now }
-    ensures { OnOk result (Finds first.old first.new (place_as scene.now.spot) (own_rules (around_as scene.now.around.now scene.now.loops.now) (known_in scene.now.known.now) stmt.now)) }
+    ensures { OnOk result (Finds first.old first.new (place_as scene.now.spot) (own_rules (around_as scene.now.around.now scene.now.loops.now) scene.now.known.now stmt.now)) }
 {
     match stmt {
         Stmt::Number { from, .. } => judge_source(scene, first, Kind::Number, from),
@@ -103,23 +94,14 @@ fn judge_own(scene: &Scene, first: &mut First, stmt: &Stmt) -> Result<(), OutOfM
 }
 
 impl<'a> Scope<'a> {
-    /// A variable that is known from here on.
-    pub(crate) fn declare(&mut self, name: &'a [u8], kind: Kind<'a>) -> Result<(), OutOfMemory>
-        ensures known { OnOk result (self.new.known.items ≡ self.old.known.items ++ record { name = name.entry; kind = kind.entry } ∷ []) }
-        ensures loops { OnOk result (self.new.loops.items ≡ self.old.loops.items) }
-    {
-        self.known.push(Variable { name, kind })?;
-        Ok(())
-    }
-
     /// The variable and the bound of a loop that begins.
     fn enter(&mut self, name: &'a [u8], bound: &'a [u8]) -> Result<(), OutOfMemory>
-        ensures known { OnOk result (self.new.known.items ≡ self.old.known.items ++ record { name = name.entry; kind = ANumber } ∷ []) }
-        ensures loops { OnOk result (self.new.loops.items ≡ self.old.loops.items ++ bound.entry ∷ [] ++ name.entry ∷ []) }
+        ensures known { OnOk result (self.new.known ≡ (name.entry.now, ANumber) ∷ self.old.known) }
+        ensures loops { OnOk result (self.new.loops ≡ (name.entry.now, ANumber) ∷ (bound.entry.now, ANumber) ∷ self.old.loops) }
     {
-        self.loops.push(bound)?;
-        self.loops.push(name)?;
-        self.declare(name, Kind::Number)?;
+        self.loops.declare(bound, Kind::Number)?;
+        self.loops.declare(name, Kind::Number)?;
+        self.known.declare(name, Kind::Number)?;
         Ok(())
     }
 }
@@ -135,10 +117,10 @@ pub(crate) fn judge_block<'a>(
     levels: u32,
 ) -> Result<u32, OutOfMemory>
     requires { Surrounds around.now }
-    ensures faults { OnOk result (Sees first.old first.new (block_faults (around_as around.now scope.old.loops.items) (known_in scope.old.known.items) stmts.now (place_as spot))) }
+    ensures faults { OnOk result (Sees first.old first.new (block_faults (around_as around.now scope.old.loops) scope.old.known stmts.now (place_as spot))) }
     ensures next { IfOk result (λ n. n ≡ spot.statement + count_all stmts.now) }
-    ensures known { OnOk result (scope.new.known.items ≡ scope.old.known.items) }
-    ensures loops { OnOk result (scope.new.loops.items ≡ scope.old.loops.items) }
+    ensures known { OnOk result (scope.new.known ≡ scope.old.known) }
+    ensures loops { OnOk result (scope.new.loops ≡ scope.old.loops) }
 {
     let deeper = levels.checked_sub(1).ok_or(OutOfMemory)?;
     let outer = scope.known.len();
@@ -150,7 +132,7 @@ pub(crate) fn judge_block<'a>(
         };
         statement = judge_stmt(around, scope, first, here, stmt, deeper)?;
     }
-    scope.known.truncate(outer);
+    scope.known.leave(outer)?;
     Ok(statement)
 }
 
@@ -164,15 +146,15 @@ fn judge_stmt<'a>(
     levels: u32,
 ) -> Result<u32, OutOfMemory>
     requires { Surrounds around.now }
-    ensures faults { OnOk result (Sees first.old first.new (stmt_faults (around_as around.now scope.old.loops.items) (known_in scope.old.known.items) stmt.now (place_as spot))) }
+    ensures faults { OnOk result (Sees first.old first.new (stmt_faults (around_as around.now scope.old.loops) scope.old.known stmt.now (place_as spot))) }
     ensures next { IfOk result (λ n. n ≡ spot.statement + count_of stmt.now) }
-    ensures known { OnOk result (Declares stmt.now scope.old.known.items scope.new.known.items) }
-    ensures loops { OnOk result (scope.new.loops.items ≡ scope.old.loops.items) }
+    ensures known { OnOk result (scope.new.known ≡ known_after stmt.now scope.old.known) }
+    ensures loops { OnOk result (scope.new.loops ≡ scope.old.loops) }
 {
     let scene = Scene {
         around,
-        known: scope.known.as_slice(),
-        loops: scope.loops.as_slice(),
+        known: &scope.known,
+        loops: &scope.loops,
         spot,
     };
     judge_own(&scene, first, stmt)?;
@@ -183,11 +165,11 @@ fn judge_stmt<'a>(
     };
     match stmt {
         Stmt::Number { name, .. } => {
-            scope.declare(name.as_slice(), Kind::Number)?;
+            scope.known.declare(name.as_slice(), Kind::Number)?;
             Ok(inner)
         }
         Stmt::Pointer { name, .. } => {
-            scope.declare(name.as_slice(), Kind::ReadPointer)?;
+            scope.known.declare(name.as_slice(), Kind::ReadPointer)?;
             Ok(inner)
         }
         Stmt::Assign { .. } | Stmt::Store { .. } | Stmt::SetCell { .. } | Stmt::Return(_) => {
@@ -207,8 +189,8 @@ fn judge_stmt<'a>(
             let loops = scope.loops.len();
             scope.enter(name.as_slice(), bound.as_slice())?;
             let next = judge_block(around, scope, first, inside, body.as_slice(), levels)?;
-            scope.known.truncate(known);
-            scope.loops.truncate(loops);
+            scope.known.leave(known)?;
+            scope.loops.leave(loops)?;
             Ok(next)
         }
     }

@@ -1,10 +1,11 @@
-//! Kinds of expressions, and the variables that are known.
+//! Kinds of expressions.
 
-ghost use Rattle.std.specs.Prelude.{◌≡◌, [], ◌∷◌, ◌++◌};
-ghost use Rattle.ecd_cast.specs.Kinds.{takes, kind_in, cell_among, result_kind, operands_fit, param_kind, sum_kind, is_summand};
-ghost use Rattle.ecd_cast.specs.Surroundings.{kind_as, kind_if, known_in, cell_kind};
+ghost use Rattle.std.specs.Prelude.{◌≡◌};
+ghost use Rattle.ecd_cast.specs.Kinds.{takes, result_kind, operands_fit, param_kind, sum_kind, is_summand};
+ghost use Rattle.ecd_cast.specs.Surroundings.{cell_kind};
+ghost use Rattle.ecd_cast.specs.Variables.{kind_as};
 
-use crate::tree::{CellInfo, CellKind, Op, ParamKind};
+use crate::tree::{CellKind, Op, ParamKind};
 
 /// The kind of an expression. `Unknown` is that of a part that breaks a rule already.
 #[derive(Clone, Copy)]
@@ -16,13 +17,6 @@ pub(crate) enum Kind<'a> {
     Unknown,
     /// A struct, by its name.
     Struct(&'a [u8]),
-}
-
-/// A variable or parameter that is known.
-#[derive(Clone, Copy)]
-pub(crate) struct Variable<'a> {
-    pub(crate) name: &'a [u8],
-    pub(crate) kind: Kind<'a>,
 }
 
 impl<'a> Kind<'a> {
@@ -54,7 +48,7 @@ impl<'a> Kind<'a> {
     }
 
     /// The kind of what a cell holds.
-    fn of_cell(kind: CellKind) -> Kind<'a>
+    pub(crate) fn of_cell(kind: CellKind) -> Kind<'a>
         ensures { kind_as result ≡ cell_kind kind }
     {
         match kind {
@@ -109,29 +103,4 @@ impl<'a> Kind<'a> {
             }
         }
     }
-}
-
-/// The kind of the variable of this name that was known last.
-pub(crate) fn kind_in<'a>(known: &[Variable<'a>], name: &[u8]) -> Option<Kind<'a>>
-    ensures { kind_if result ≡ kind_in (known_in known.now) name.now }
-{
-    let mut found = None;
-    for variable in known {
-        if variable.name == name {
-            found = Some(variable.kind);
-        }
-    }
-    found
-}
-
-/// The kind of the first cell of this name.
-pub(crate) fn cell_among<'a>(cells: &[CellInfo], name: &[u8]) -> Option<Kind<'a>>
-    ensures { kind_if result ≡ cell_among cells.now name.now }
-{
-    for cell in cells {
-        if cell.name.as_slice() == name {
-            return Some(Kind::of_cell(cell.kind));
-        }
-    }
-    None
 }

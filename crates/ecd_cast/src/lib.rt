@@ -3,8 +3,10 @@
 
 pub mod build;
 pub mod builder;
+mod by_name;
 #[cfg(test)]
 mod cell_tests;
+mod cells;
 mod chains;
 mod directory;
 pub mod fault;
@@ -22,6 +24,9 @@ mod rules_tests;
 pub mod tree;
 pub mod validate;
 pub mod value;
+mod variables;
+#[cfg(test)]
+mod variables_tests;
 
 #[cfg(test)]
 mod tests {

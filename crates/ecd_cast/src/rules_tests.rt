@@ -29,7 +29,7 @@ fn variable(alloc: Global, text: &[u8]) -> Result<Expr, OutOfMemory>
 }
 
 /// `uint64_t text = from;`
-fn declare(alloc: Global, text: &[u8], from: Expr) -> Result<Stmt, OutOfMemory>
+pub(crate) fn declare(alloc: Global, text: &[u8], from: Expr) -> Result<Stmt, OutOfMemory>
     requires name { IsName text.now }
     requires from { IsSpelledExpr from }
     ensures { IfOk result (λ s. IsSpelledStmt s) }
@@ -59,7 +59,7 @@ fn declare_call(alloc: Global, text: &[u8], function: &[u8]) -> Result<Stmt, Out
 }
 
 /// `text = 0ull;`
-fn clear(alloc: Global, text: &[u8]) -> Result<Stmt, OutOfMemory>
+pub(crate) fn clear(alloc: Global, text: &[u8]) -> Result<Stmt, OutOfMemory>
     requires { IsName text.now }
     ensures { IfOk result (λ s. IsSpelledStmt s) }
 {
@@ -125,7 +125,11 @@ fn program(alloc: Global, depth: u32, item: CItem) -> Result<Program, OutOfMemor
 }
 
 /// The fault of a program of one function with these two statements, whose depth is told to be 1.
-fn fault_of(alloc: Global, first: Stmt, second: Stmt) -> Result<Option<CFault>, OutOfMemory>
+pub(crate) fn fault_of(
+    alloc: Global,
+    first: Stmt,
+    second: Stmt,
+) -> Result<Option<CFault>, OutOfMemory>
     requires first { IsSpelledStmt first }
     requires second { IsSpelledStmt second }
 {
@@ -696,7 +700,7 @@ fn either(test: Expr, first: StmtList, second: StmtList) -> Stmt
 }
 
 /// `if (0ull < 1ull) { first } else { second }`
-fn choice(alloc: Global, first: Stmt, second: Stmt) -> Result<Stmt, OutOfMemory>
+pub(crate) fn choice(alloc: Global, first: Stmt, second: Stmt) -> Result<Stmt, OutOfMemory>
     requires first { IsSpelledStmt first }
     requires second { IsSpelledStmt second }
     ensures { IfOk result (λ s. IsSpelledStmt s) }

@@ -1,4 +1,4 @@
-use Rattle.std.proofs.Common.{◌∙◌, arith, ◌<◌, ◌≤◌, length}
+use Rattle.std.proofs.Common.{arith, ◌<◌, ◌≤◌, length}
 use Rattle.ecd_cast.proofs.Known.{params-more}
 use Rattle.ecd_cast.proofs.judge_item.scope_of.Goals as goal
 
@@ -7,6 +7,6 @@ loop-number-preserved c =
     let pos : 0 < c.loop-number.number = omega arith in
     let le : c.loop-number.number ≤ length c.args.params.now = omega arith in
     record {
-      known = params-more c.args.params.now c.loop-number.number c.index-params-number.result _ _ _ pos le c.index-params-number.is c.loop-number.invariant.known c.in_ok-declare.ensures.known c.as_slice.ensures c.of_param.ensures;
-      loops = c.in_ok-declare.ensures.loops ∙ c.loop-number.invariant.loops;
+      known = params-more c.args.params.now c.loop-number.number c.index-params-number.result _ _ _ _ pos le c.index-params-number.is c.loop-number.invariant.known c.in_ok-declare.ensures c.as_slice.ensures c.of_param.ensures;
+      loops = c.loop-number.invariant.loops;
     }

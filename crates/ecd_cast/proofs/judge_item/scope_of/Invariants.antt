@@ -1,10 +1,9 @@
 use Rattle.std.proofs.Common.{◌≡◌, drop, []}
 use Rattle.ecd_cast.specs.Validity.{params_known}
-use Rattle.ecd_cast.specs.Surroundings.{known_in}
 use Rattle.ecd_cast.proofs.judge_item.scope_of.Given as goal
 
 abbrev pub invariant-loop-number : goal.invariant-loop-number
 invariant-loop-number l = record {
-  known : known_in l.scope.known.items ≡ params_known (drop l.number l.params);
-  loops : l.scope.loops.items ≡ [];
+  known : l.scope.known ≡ params_known (drop l.number l.params);
+  loops : l.scope.loops ≡ [];
 }

@@ -8,5 +8,5 @@ use Rattle.ecd_cast.proofs.judge_names.+names.Given as goal
 abbrev pub invariant-name_block-loop-stmt : goal.invariant-name_block-loop-stmt
 invariant-name_block-loop-stmt l = record {
   counts : l.statement ≡ l.spot.statement + count_all (take l.stmt-index l.stmts);
-  named : Named l.initial.names.items l.initial.first l.names.items l.first (named_in (take l.stmt-index l.stmts) (place_as l.spot));
+  named : Named l.initial.names l.initial.first l.names l.first (named_in (take l.stmt-index l.stmts) (place_as l.spot));
 }

@@ -6,4 +6,4 @@ use Rattle.ecd_cast.specs.Names.{Named}
 use Rattle.ecd_cast.proofs.judge_names.name_cells.Given as goal
 
 abbrev pub invariant-loop-cell : goal.invariant-loop-cell
-invariant-loop-cell l = Named l.initial.names.items l.initial.first l.names.items l.first (head_names (place_as l.spot) (map (λ q. q.name) (take l.cell-index l.cells)))
+invariant-loop-cell l = Named l.initial.names l.initial.first l.names l.first (head_names (place_as l.spot) (map (λ q. q.name) (take l.cell-index l.cells)))
