@@ -1,0 +1,5 @@
+pub mod Names
+pub mod Variables
+pub mod Trees
+pub mod Meanings
+pub mod Runtime
