@@ -204,7 +204,7 @@ pub(crate) fn output(alloc: Global, text: &[u8]) -> Result<Param, OutOfMemory>
 }
 
 /// `(const uint8_t *buf, uint64_t at)`
-pub(crate) fn place_params(alloc: Global) -> Result<ParamList, OutOfMemory>
+pub fn place_params(alloc: Global) -> Result<ParamList, OutOfMemory>
     ensures { IfOk result (λ ps. ps ≡ spec.pointer v.buf ∷ spec.number v.at ∷ []) }
 {
     let mut params = one(alloc, pointer(alloc, b"buf")?)?;

@@ -28,14 +28,13 @@ use Rattle.ecd_fixed.proofs.Placed.{placed_last, kept, free_behind, named_behind
 use Rattle.ecd_rt.specs.Names.{any_name, items_name, pairs_name}
 use Rattle.ecd_rt.specs.Trees.{text_end, items_end, pairs_end, any_end, level_functions, level_names, any_functions, any_names}
 use Rattle.ecd_rt.specs.Meanings.{IsAny}
-use Rattle.ecd_rt.specs.Runtime.{FrontIsThere, FrontMeans, AnyIsThere, AnyMeans}
+use Rattle.ecd_rt.specs.Standing.{FrontIsThere, FrontMeans, LevelIsThere}
 use Rattle.ecd_rt.proofs.Naming.{any_is, items_is, pairs_is, items_any, pairs_any, items_pairs, pairs_items}
 use Rattle.ecd_rt.proofs.Readers.{item_advances, item_ends}
 use Rattle.ecd_rt.proofs.Following.{Follows, FollowsMany, items_answers}
 use Rattle.ecd_rt.proofs.Pairing.{pairs_answers}
 use Rattle.ecd_rt.proofs.Texting.{TextEnd, text_answers}
 use Rattle.ecd_rt.proofs.Deepening.{leaf_follows, level_follows}
-use Rattle.ecd_rt.proofs.Fresh.{any_of_level, level_after, any_among, level_among, new_in_both}
 
 -- ---- valid
 
@@ -122,6 +121,9 @@ module _ (old : List CItem) (there : FrontIsThere old) (new : AreNew (any_names 
   unfolding text_end
   text_among = put_last old text_end (codes "text_end") refl new.0
 
+  pub text_among_2 : IsAmong text_end (old ++ any_functions 0)
+  text_among_2 = subst (IsAmong text_end) (append_assoc old one_leaf (AFunction (any_end 0) ∷ [])) (among_kept text_end (old ++ one_leaf) (AFunction (any_end 0) ∷ []) text_among)
+
   leaf_new : IsNew (any_name 0) one_leaf
   unfolding text_end any_name
   leaf_new = (refl, tt)
@@ -129,15 +131,11 @@ module _ (old : List CItem) (there : FrontIsThere old) (new : AreNew (any_names 
   pub valid_leaf : IsValidAfter (old ++ one_leaf) (AFunction (any_end 0))
   valid_leaf = leaf_valid (old ++ one_leaf) (free_behind old one_leaf (any_name 0) new.1.0 leaf_new) (among_kept own_end old one_leaf there.extents.own) text_among
 
--- what a level stands on, among the items before it
-pub record LevelStands (below : ℕ) (base : List CItem) : Type 0 where
-  pub own : IsAmong own_end base
-  pub argument : IsAmong head_argument base
-  pub compare : IsAmong compare_bytes base
-  pub text : IsAmong text_end base
-  pub any : IsAmong (any_end below) base
+  pub leaf_among : IsAmong (any_end 0) (old ++ any_functions 0)
+  unfolding any_end
+  leaf_among = subst (IsAmong (any_end 0)) (append_assoc old one_leaf (AFunction (any_end 0) ∷ [])) (put_last (old ++ one_leaf) (any_end 0) (any_name 0) refl (new_behind old one_leaf (any_name 0) new.1.0 leaf_new))
 
-module _ (below : ℕ) (base : List CItem) (there : LevelStands below base) (new : AreNew (level_names below) base) where
+module _ (below : ℕ) (base : List CItem) (there : LevelIsThere below base) (new : AreNew (level_names below) base) where
   pub valid_items : IsValidAfter (base ++ []) (AFunction (items_end below))
   valid_items = items_valid below (base ++ []) (free_behind base [] (items_name below) new.0 tt) (among_kept (any_end below) base [] there.any)
 
@@ -146,7 +144,7 @@ module _ (below : ℕ) (base : List CItem) (there : LevelStands below base) (new
   pairs_new = (items_pairs below below, tt)
 
   pub valid_pairs : IsValidAfter (base ++ one_level below) (AFunction (pairs_end below))
-  valid_pairs = pairs_valid below (base ++ one_level below) (free_behind base (one_level below) (pairs_name below) new.1.0 pairs_new) (among_kept (any_end below) base (one_level below) there.any) (among_kept compare_bytes base (one_level below) there.compare)
+  valid_pairs = pairs_valid below (base ++ one_level below) (free_behind base (one_level below) (pairs_name below) new.1.0 pairs_new) (among_kept (any_end below) base (one_level below) there.any) (among_kept compare_bytes base (one_level below) there.comparison)
 
   any_new : IsNew (any_name (suc below)) (two_levels below)
   unfolding items_end pairs_end
@@ -232,7 +230,7 @@ module _ (old : List CItem) (mean : FrontMeans old) where
   unfolding text_end any_end any_name
   compare_leaf = (refl, (refl, tt))
 
-  base_means : LevelMeans 0 (old ++ any_functions 0)
+  pub base_means : LevelMeans 0 (old ++ any_functions 0)
   base_means = record {
     own = callee_kept OwnEnd old (any_functions 0) (codes "own_end") own_leaf mean.extents.own;
     argument = callee_kept HeadArgument old (any_functions 0) (codes "head_argument") argument_leaf mean.heads.argument;

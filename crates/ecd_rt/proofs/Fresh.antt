@@ -1,5 +1,5 @@
 -- The names of the fixed functions are all different.
-use Rattle.std.proofs.Common.{◌≡◌, ℕ, zero, suc, ◌+◌, ◌<◌, ◌≤◌, Bool, true, false, ◌&&◌, List, [], ◌∷◌, ◌++◌, refl, subst, arith}
+use Rattle.std.proofs.Common.{◌≡◌, ℕ, zero, suc, ◌+◌, ◌<◌, ◌≤◌, Bool, true, false, ◌&&◌, List, [], ◌∷◌, ◌++◌, refl, sym, subst, arith}
 use Rattle.std.specs.Prelude.{codes, not, bytes_eq, nat_eq}
 use Rattle.std.proofs.lemmas.Bool.{eqb-true, eqb-false}
 use Rattle.ecd_cast.specs.declared.tree.CItem.{CItem}
@@ -206,13 +206,16 @@ level_among zero k lt items h = absurd (omega arith)
 level_among (suc depth) k lt items h =
     among_step depth k items (λ less. level_among depth k less items (first_names (any_names depth) (level_names depth) items h)) (last_names (any_names depth) (level_names depth) items h) lt (nat_eq depth k) refl
 
-pub base_among : (depth : ℕ) (items : List CItem) → AreNew (any_names depth) items → AreNew (any_names 0) items
-base_among zero items h = h
-base_among (suc depth) items h = base_among depth items (first_names (any_names depth) (level_names depth) items h)
+-- the names up to a lower depth
+below_step : (depth k : ℕ) (items : List CItem) → (k ≤ depth → AreNew (any_names k) items) → AreNew (any_names (suc depth)) items → k ≤ suc depth → (b : Bool) → nat_eq k (suc depth) ≡ b → AreNew (any_names k) items
+below_step depth k items ih all le true e = subst (λ (n : ℕ). AreNew (any_names n) items) (sym (eqb-true k (suc depth) e)) all
+below_step depth k items ih all le false e = ih (omega (arith, eqb-false k (suc depth) e))
 
-pub any_among : (depth k : ℕ) → k ≤ depth → (items : List CItem) → AreNew (any_names depth) items → IsNew (any_name k) items
-any_among depth zero le items h = (base_among depth items h).1.0
-any_among depth (suc k) le items h = (level_among depth k le items h).1.1.0
+pub names_below : (depth k : ℕ) → k ≤ depth → (items : List CItem) → AreNew (any_names depth) items → AreNew (any_names k) items
+names_below zero zero le items h = h
+names_below zero (suc k) le items h = absurd (omega arith)
+names_below (suc depth) k le items h =
+    below_step depth k items (λ less. names_below depth k less items (first_names (any_names depth) (level_names depth) items h)) h le (nat_eq k (suc depth)) refl
 
 -- ---- other names behind those with a depth
 

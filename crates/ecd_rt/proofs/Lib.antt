@@ -10,3 +10,4 @@ pub mod Behind
 pub mod Deepening
 pub mod Fresh
 pub mod Chaining
+pub mod Climbing

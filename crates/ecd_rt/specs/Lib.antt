@@ -2,4 +2,5 @@ pub mod Names
 pub mod Variables
 pub mod Trees
 pub mod Meanings
+pub mod Standing
 pub mod Runtime

@@ -1,5 +1,5 @@
 -- All fixed functions of an emitted file, one behind the other.
-use Rattle.std.specs.Prelude.{ℕ, ◌≤◌, List, [], ◌∷◌, ◌++◌, codes}
+use Rattle.std.specs.Prelude.{ℕ, List, [], ◌∷◌, ◌++◌, codes}
 use Rattle.ecd_cast.specs.declared.tree.CItem.{CItem}
 use Rattle.ecd_cast.specs.declared.tree.CItem.TheVariants.{Function as AFunction}
 use Rattle.ecd_cast.specs.Memory.{Name}
@@ -12,9 +12,8 @@ use Rattle.ecd_fixed.specs.Compare.{compare_bytes, ComparesBytes}
 use Rattle.ecd_fixed.specs.HeadWriter.{put_functions, put_names}
 use Rattle.ecd_fixed.specs.Copier.{copy_bytes, CopiesBytes}
 use Rattle.ecd_fixed.specs.Standing.{AreNew, IsAmong, HeadsAreThere, HeadsMean, HeadWriterIsThere, HeadWriterMeans}
-use Rattle.ecd_rt.specs.Names.{any_name}
-use Rattle.ecd_rt.specs.Trees.{any_functions, any_names, any_end}
-use Rattle.ecd_rt.specs.Meanings.{IsAny}
+use Rattle.ecd_rt.specs.Trees.{any_functions, any_names}
+use Rattle.ecd_rt.specs.Standing.{AnyIsThere, AnyMeans}
 
 -- what the functions with a depth stand on
 abbrev pub front_functions : List CItem
@@ -35,28 +34,6 @@ runtime_functions depth = front_functions ++ (any_functions depth ++ writing_fun
 
 abbrev pub runtime_names : ℕ → List Name
 runtime_names depth = front_names ++ (any_names depth ++ writing_names)
-
--- the functions that those with a depth stand on are there, so that they may be called
-pub record FrontIsThere (items : List CItem) : Type 0 where
-  pub heads : HeadsAreThere items
-  pub extents : ExtentsAreThere items
-  pub utf8 : IsAmong utf8_valid items
-  pub comparison : IsAmong compare_bytes items
-
--- each of them means what it is to mean
-pub record FrontMeans (items : List CItem) : Type 0 where
-  pub heads : HeadsMean items
-  pub extents : ExtentsMean items
-  pub utf8 : ChecksUtf8 (calls_of items (codes "utf8_valid"))
-  pub comparison : ComparesBytes (calls_of items (codes "compare_bytes"))
-
--- the functions with a depth are there
-abbrev pub AnyIsThere : ℕ → List CItem → Type 0
-AnyIsThere depth items = (deepest : ℕ) → deepest ≤ depth → IsAmong (any_end deepest) items
-
--- each of them means what it is to mean
-abbrev pub AnyMeans : ℕ → List CItem → Type 0
-AnyMeans depth items = (deepest : ℕ) → deepest ≤ depth → IsAny deepest (calls_of items (any_name deepest))
 
 -- all of them are there
 pub record RuntimeIsThere (depth : ℕ) (items : List CItem) : Type 0 where

@@ -1,6 +1,6 @@
 //! The fixed functions of every emitted file, those with a depth among them.
 #![tactic(auto)]
 
-ghost use Rattle.std.specs.Prelude.{ℕ};
-
-pub fn nothing() {}
+mod any;
+mod names;
+mod runs;
