@@ -11,3 +11,4 @@ pub mod Deepening
 pub mod Fresh
 pub mod Chaining
 pub mod Climbing
+pub mod Gathering
