@@ -20,7 +20,7 @@ key_stop c x y s used h = grind arith
 pub order_stop : (c x b z s used : ℕ) → used + 7 * s ≤ (c + 27) * x → used + suc (suc (c * b + (2 + suc (suc (7 * (s + 1) + 2))))) ≤ (c + 27) * suc (x + (b + z)) + 1
 order_stop c x b z s used h = grind arith
 
-pub value_stop : (c x b z s used : ℕ) → used + 7 * s ≤ (c + 27) * x → used + suc (suc (c * b + (2 + suc (suc (7 * (s + 1) + (2 + suc (suc (suc (c * suc z + 2)))))))))  ≤ (c + 27) * suc (x + (b + z)) + 1
+pub value_stop : (c x b z s used : ℕ) → used + 7 * s ≤ (c + 27) * x → used + suc (suc (c * b + (2 + suc (suc (7 * (s + 1) + (2 + suc (suc (suc (c * suc z + 2))))))))) ≤ (c + 27) * suc (x + (b + z)) + 1
 value_stop c x b z s used h = grind arith
 
 pub pair_paid : (c x b v s used : ℕ) → used + 7 * s ≤ (c + 27) * x → 0 < v → used + suc (suc (c * b + (2 + suc (suc (7 * (s + 1) + (2 + suc (suc (suc (c * v + 2))))))))) + 7 * b ≤ (c + 27) * (x + (b + v))

@@ -62,7 +62,7 @@ part_paid : (len at from T : ℕ) → at < from → from ≤ len → 0 < paid_by
 part_paid len at from T lt le some = grind (arith, nat_tests, some)
 
 module _ (calls : Calls) (block offset len at : ℕ) (m : Memory) (bytes : List ℕ) (w : Window m block offset len bytes) (le : at ≤ len)
-         (own : OwnEnd (calls (codes "own_end"))) (texts : TextEnd (calls (codes "text_end"))) (arguments : HeadArgument (calls (codes "head_argument"))) where
+    (own : OwnEnd (calls (codes "own_end"))) (texts : TextEnd (calls (codes "text_end"))) (arguments : HeadArgument (calls (codes "head_argument"))) where
   abbrev begun : Scopes
   begun = ((v.buf, Ptr block offset) ∷ (v.len, Num len) ∷ (v.at, Num at) ∷ []) ∷ []
 
@@ -172,13 +172,13 @@ module _ (calls : Calls) (block offset len at : ℕ) (m : Memory) (bytes : List 
   -- ---- one level deeper
 
   module _ (read : Reader Item) (ahead : Advances read) (each below : ℕ) (any : Follows read each (calls (any_name below))) (items : FollowsMany (many read) (each + 4) 3 (calls (items_name below)))
-           (all_pairs : FollowsMany (λ n. pairs Bytewise read None n) (each + 27) 5 (calls (pairs_name below)))
-           (T most : ℕ) (is : place_of (layer Bytewise (Some read) at (drop at bytes)) ≡ T) (paid : (each + 162) * paid_by len at T ≤ most) (some : 0 < paid_by len at T) where
+      (all_pairs : FollowsMany (λ n. pairs Bytewise read None n) (each + 27) 5 (calls (pairs_name below)))
+      (T most : ℕ) (is : place_of (layer Bytewise (Some read) at (drop at bytes)) ≡ T) (paid : (each + 162) * paid_by len at T ≤ most) (some : 0 < paid_by len at T) where
     abbrev Told : ℕ → Type 0
     Told n = n ≡ T
 
     module _ (head : Head) (size major : ℕ) (h : head_at (drop at bytes) ≡ Ok (head, size)) (em : major ≡ head.major) (high : 3 < major) (low : major < 7) (pos : 0 < size) (room : at + size ≤ len)
-             (e : T ≡ place_of (behind Bytewise (Some read) at head (at + size) (drop (at + size) bytes))) where
+        (e : T ≡ place_of (behind Bytewise (Some read) at head (at + size) (drop (at + size) bytes))) where
       abbrev start : ℕ
       start = at + size
 

@@ -37,6 +37,10 @@ pub new_in_both : (names : List Name) (old more : List CItem) → AreNew names o
 new_in_both [] old more h k = tt
 new_in_both (g ∷ names) old more h k = (new_behind old more g h.0 k.0, new_in_both names old more h.1 k.1)
 
+pub new_in_none : (names : List Name) → AreNew names []
+new_in_none [] = tt
+new_in_none (g ∷ names) = (tt, new_in_none names)
+
 -- ---- names that are all written out
 
 abbrev is_new : Name → List CItem → Bool

@@ -141,7 +141,7 @@ module _ (read : Reader Item) (ahead : Advances read) (each deepest : ℕ) (call
     APairTurn i used here key size = Turn calls m v.i (key_turn deepest ++ value_turn deepest) Before Answer limit i used (frame here key size ∷ [])
 
     module _ (i used here key size left : ℕ) (all : i + suc left ≡ count) (past : at ≤ here) (within : here ≤ len) (keyed : key + size ≤ len) (same : read_on key size (suc left) here ≡ target)
-             (paid : used + 7 * size ≤ (each + 27) * (here - at)) where
+        (paid : used + 7 * size ≤ (each + 27) * (here - at)) where
       abbrev last : Option (List ℕ)
       last = Some (key_at key size)
 

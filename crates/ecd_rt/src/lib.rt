@@ -10,6 +10,8 @@ mod base;
 pub mod laws;
 mod names;
 mod runs;
+#[cfg(test)]
+mod tests;
 
 use crate::any::any_chain;
 use crate::base::{put_front, put_writing};

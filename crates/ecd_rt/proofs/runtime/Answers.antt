@@ -22,9 +22,9 @@ returns-clause-items c =
 pub returns-clause-there : goal.returns-clause-there
 returns-clause-there c =
     runtime_there c.args.depth c.requires.deep c.args.builder.now c.put_front.new.builder c.in_ok-put_front.ensures.items c.requires.new c.any_chain.new.builder c.in_ok-any_chain.ensures.items c.put_writing.new.builder c.in_ok-put_writing.ensures.items
-        c.in_ok-put_front.ensures.there c.in_ok-any_chain.ensures.there c.in_ok-put_writing.ensures.writer_there c.in_ok-put_writing.ensures.copier_there
+    c.in_ok-put_front.ensures.there c.in_ok-any_chain.ensures.there c.in_ok-put_writing.ensures.writer_there c.in_ok-put_writing.ensures.copier_there
 
 pub returns-clause-mean : goal.returns-clause-mean
 returns-clause-mean c =
     runtime_means c.args.depth c.requires.deep c.args.builder.now c.put_front.new.builder c.in_ok-put_front.ensures.items c.requires.new c.any_chain.new.builder c.in_ok-any_chain.ensures.items c.put_writing.new.builder c.in_ok-put_writing.ensures.items
-        c.in_ok-put_front.ensures.mean c.in_ok-any_chain.ensures.mean c.in_ok-put_writing.ensures.writer c.in_ok-put_writing.ensures.copier
+    c.in_ok-put_front.ensures.mean c.in_ok-any_chain.ensures.mean c.in_ok-put_writing.ensures.writer c.in_ok-put_writing.ensures.copier
