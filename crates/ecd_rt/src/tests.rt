@@ -183,7 +183,7 @@ fn items_end_where_the_reader_ends_them_at_each_depth(rt: HostRuntime) -> Result
 }
 
 #[test]
-fn a_front_that_is_cut_off_is_no_item(rt: HostRuntime) -> Result<(), Fail> {
+fn what_is_cut_off_ends_where_the_reader_ends_it(rt: HostRuntime) -> Result<(), Fail> {
     let alloc = rt.alloc();
     let valid = program(alloc, 2)?;
     for bytes in ROWS.iter() {
