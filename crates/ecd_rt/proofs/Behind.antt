@@ -1,10 +1,9 @@
 -- Where an item ends, by its head and the place behind its own bytes.
-use Rattle.std.proofs.Common.{◌≡◌, ℕ, zero, suc, ◌+◌, ◌-◌, ◌<◌, ◌≤◌, Bool, true, false, cond, List, length, take, drop, Option, Some, None, Ok, refl, ap, sym, ◌∙◌, arith, length-drop}
-use Rattle.std.specs.Prelude.{nat_lt, ◌≢◌}
+use Rattle.std.proofs.Common.{◌≡◌, ℕ, zero, suc, ◌+◌, ◌-◌, ◌<◌, ◌≤◌, Bool, true, false, List, length, take, drop, Option, Some, None, Ok, refl, ◌∙◌, arith, length-drop}
+use Rattle.std.specs.Prelude.{nat_lt}
 use Rattle.std.specs.Str.{is_utf8}
 use Rattle.std.proofs.lemmas.Bool.{lt-ltb, le-ltb}
 use Rattle.std.proofs.lemmas.Bool.Decides.{nat_tests}
-use Rattle.std.proofs.lemmas.List.{drop-drop}
 use Rattle.ecd_head.specs.declared.Head.{Head}
 use Rattle.ecd_keyorder.specs.declared.Order.TheVariants.{Bytewise}
 use Rattle.ecd_item.specs.declared.item.Item.{Item}

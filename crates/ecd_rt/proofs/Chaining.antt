@@ -1,7 +1,6 @@
 -- The functions with a depth behind other items: each is valid there, and means what it is to mean.
-use Rattle.std.proofs.Common.{◌≡◌, ℕ, zero, suc, ◌+◌, ◌*◌, ◌<◌, ◌≤◌, Bool, true, false, List, [], ◌∷◌, ◌++◌, length, None, refl, ap, sym, subst, ◌∙◌, arith, rules, append_assoc}
-use Rattle.std.specs.Prelude.{codes, nat_eq, bytes_eq, Some}
-use Rattle.std.proofs.lemmas.Bool.{eqb-true, eqb-false}
+use Rattle.std.proofs.Common.{◌≡◌, ℕ, suc, ◌+◌, ◌*◌, ◌<◌, ◌≤◌, true, false, List, [], ◌∷◌, ◌++◌, length, None, refl, sym, subst, ◌∙◌, arith, rules, append_assoc}
+use Rattle.std.specs.Prelude.{codes, bytes_eq}
 use Rattle.std.proofs.lemmas.Slice.Eq.{bytes_eq-Decides}
 use denote.Hole.Carrier.{hidden}
 use Rattle.ecd_cast.specs.declared.tree.Expr.TheBlock as exprs
@@ -12,7 +11,7 @@ use Rattle.ecd_cast.specs.declared.tree.CItem.TheVariants.{Function as AFunction
 use Rattle.ecd_cast.specs.Memory.{Name}
 use Rattle.ecd_cast.specs.Kept.{IsNew}
 use Rattle.ecd_cast.specs.Meaning.{calls_of}
-use Rattle.ecd_cast.specs.Validity.{IsValidAfter, functions_of, function_named}
+use Rattle.ecd_cast.specs.Validity.{IsValidAfter}
 use Rattle.ecd_cast.specs.Spelling.{IsSpelledItem, IsName}
 use Rattle.ecd_keyorder.specs.declared.Order.TheVariants.{Bytewise}
 use Rattle.ecd_item.specs.Reading.{item_at, many, pairs}
@@ -27,10 +26,9 @@ use Rattle.ecd_fixed.proofs.Valid.{IsFree}
 use Rattle.ecd_fixed.proofs.Placed.{placed_last, kept, free_behind, named_behind, new_behind}
 use Rattle.ecd_rt.specs.Names.{any_name, items_name, pairs_name}
 use Rattle.ecd_rt.specs.Trees.{text_end, items_end, pairs_end, any_end, level_functions, level_names, any_functions, any_names}
-use Rattle.ecd_rt.specs.Meanings.{IsAny}
 use Rattle.ecd_rt.specs.Standing.{FrontIsThere, FrontMeans, LevelIsThere}
 use Rattle.ecd_rt.proofs.Naming.{any_is, items_is, pairs_is, items_any, pairs_any, items_pairs, pairs_items}
-use Rattle.ecd_rt.proofs.Readers.{item_advances, item_ends}
+use Rattle.ecd_rt.proofs.Readers.{item_advances}
 use Rattle.ecd_rt.proofs.Following.{Follows, FollowsMany, items_answers}
 use Rattle.ecd_rt.proofs.Pairing.{pairs_answers}
 use Rattle.ecd_rt.proofs.Texting.{TextEnd, text_answers}

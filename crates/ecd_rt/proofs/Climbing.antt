@@ -3,14 +3,13 @@ use Rattle.std.proofs.Common.{◌≡◌, ℕ, zero, suc, ◌+◌, ◌*◌, ◌<�
 use Rattle.std.specs.Prelude.{nat_eq}
 use Rattle.std.proofs.lemmas.Bool.{eqb-true, eqb-false}
 use Rattle.ecd_cast.specs.declared.tree.CItem.{CItem}
-use Rattle.ecd_cast.specs.Kept.{IsNew}
 use Rattle.ecd_cast.specs.Meaning.{calls_of}
 use Rattle.ecd_cast.specs.Ends.{Does}
 use Rattle.ecd_keyorder.specs.declared.Order.TheVariants.{Bytewise}
 use Rattle.ecd_item.specs.Reading.{item_at}
 use Rattle.ecd_fixed.specs.Windows.{Callee, IsEnd, asked}
 use Rattle.ecd_fixed.specs.Heads.{head_argument}
-use Rattle.ecd_fixed.specs.Extents.{own_end, AnswersWithin}
+use Rattle.ecd_fixed.specs.Extents.{own_end}
 use Rattle.ecd_fixed.specs.Compare.{compare_bytes}
 use Rattle.ecd_fixed.specs.Standing.{AreNew, IsAmong}
 use Rattle.ecd_fixed.proofs.Kept.{callee_kept, among_kept}

@@ -1,5 +1,5 @@
 -- What the function that reads an item of a depth answers, over those of the level below.
-use Rattle.std.proofs.Common.{◌≡◌, ℕ, zero, suc, ◌+◌, ◌-◌, ◌*◌, ◌/◌, ◌<◌, ◌≤◌, List, [], ◌∷◌, ◌++◌, take, drop, get_or, Option, Some, None, Result, Ok, Err, Bool, true, false, refl, ap, sym, subst, ◌∙◌, arith}
+use Rattle.std.proofs.Common.{◌≡◌, ℕ, suc, ◌+◌, ◌-◌, ◌*◌, ◌/◌, ◌<◌, ◌≤◌, List, [], ◌∷◌, ◌++◌, take, drop, get_or, Option, Some, None, Result, Ok, Err, Bool, true, false, refl, ap, sym, subst, ◌∙◌, arith}
 use Rattle.std.specs.Prelude.{codes, nat_eq, nat_lt, ◌≢◌}
 use Rattle.std.specs.Str.{is_utf8}
 use Rattle.std.proofs.lemmas.Bool.{eqb-true, eqb-false, ltb-true, ltb-false}
@@ -7,9 +7,7 @@ use Rattle.std.proofs.lemmas.Bool.Decides.{nat_tests}
 use Rattle.std.proofs.lemmas.List.{drop-drop}
 use denote.Hole.Carrier.{hidden}
 use Rattle.ecd_cast.specs.declared.tree.Expr.TheBlock as exprs
-use Rattle.ecd_cast.specs.declared.tree.Expr.TheVariants.{Number}
 use Rattle.ecd_cast.specs.declared.tree.Stmt.{Stmt}
-use Rattle.ecd_cast.specs.declared.tree.Stmt.TheVariants.{Return}
 use Rattle.ecd_cast.specs.declared.value.Value.TheVariants.{Number as Num, Bytes as Ptr}
 use Rattle.ecd_cast.specs.Memory.{Memory}
 use Rattle.ecd_cast.specs.Expressions.{Scopes}
@@ -20,7 +18,7 @@ use Rattle.ecd_cast.proofs.Rules.{return_rule, let_rule, call_rule, if_rule, gua
 use Rattle.ecd_head.specs.declared.HeadFault.{HeadFault}
 use Rattle.ecd_head.specs.declared.Head.{Head}
 use Rattle.ecd_head.specs.Fault.{head_at}
-use Rattle.ecd_head.proofs.Heads.{head_takes, IsBytes-drop}
+use Rattle.ecd_head.proofs.Heads.{IsBytes-drop}
 use Rattle.ecd_keyorder.specs.declared.Order.TheVariants.{Bytewise}
 use Rattle.ecd_item.specs.declared.item.Item.{Item}
 use Rattle.ecd_item.specs.Reading.{Reader, item_at, inner_of, layer, behind, parts, many, pairs}
@@ -37,7 +35,7 @@ use Rattle.ecd_rt.specs.Trees.{any_front, any_behind, any_end}
 use Rattle.ecd_rt.specs.Meanings.{paid_by}
 use Rattle.ecd_rt.proofs.Budgets.{whole_paid, tag_paid, items_paid, pairs_paid}
 use Rattle.ecd_rt.proofs.Readers.{place_of, Advances, item_advances}
-use Rattle.ecd_rt.proofs.Following.{Follows, FollowsMany, counted}
+use Rattle.ecd_rt.proofs.Following.{Follows, FollowsMany}
 use Rattle.ecd_rt.proofs.Texting.{TextEnd, text_place}
 use Rattle.ecd_rt.proofs.Behind.{Advance, few_left, few_end, low_end, simple_end, text_ends, parts_end, tag_place, map_place, array_place, no_parts}
 

@@ -1,5 +1,5 @@
 -- The functions that read several items one behind the other, over one that reads an item.
-use Rattle.std.proofs.Common.{◌≡◌, ℕ, zero, suc, ◌+◌, ◌-◌, ◌*◌, ◌%◌, ◌<◌, ◌≤◌, List, [], ◌∷◌, take, drop, Result, Ok, Err, refl, ap, sym, subst, ◌∙◌, arith}
+use Rattle.std.proofs.Common.{◌≡◌, ℕ, suc, ◌+◌, ◌-◌, ◌*◌, ◌<◌, ◌≤◌, List, [], ◌∷◌, drop, Result, Ok, Err, refl, ap, sym, subst, ◌∙◌, arith}
 use Rattle.std.specs.Prelude.{nat_eq}
 use Rattle.std.proofs.lemmas.Bool.{eqb-true, eqb-false}
 use Rattle.std.proofs.lemmas.Bool.Decides.{nat_tests}
@@ -11,9 +11,9 @@ use Rattle.ecd_cast.specs.declared.value.Value.{Value}
 use Rattle.ecd_cast.specs.declared.value.Value.TheVariants.{Number as Num, Bytes as Ptr}
 use Rattle.ecd_cast.specs.Memory.{Memory}
 use Rattle.ecd_cast.specs.Expressions.{Scopes}
-use Rattle.ecd_cast.specs.Meaning.{Calls, called, leave}
+use Rattle.ecd_cast.specs.Meaning.{Calls, called}
 use Rattle.ecd_cast.specs.Ends.{Answers}
-use Rattle.ecd_cast.specs.Rules.{Works, Goes}
+use Rattle.ecd_cast.specs.Rules.{Works}
 use Rattle.ecd_cast.proofs.Rules.{return_rule, let_rule, assign_call_goes, guard_goes, nil_goes, called_rule, works_within}
 use Rattle.ecd_item.specs.declared.fault.Fault.{Fault}
 use Rattle.ecd_item.specs.declared.item.Item.{Item}

@@ -1,5 +1,5 @@
 -- The functions that read the pairs of a map, over one that reads an item.
-use Rattle.std.proofs.Common.{◌≡◌, ℕ, zero, suc, ◌+◌, ◌-◌, ◌*◌, ◌%◌, ◌<◌, ◌≤◌, List, [], ◌∷◌, ◌++◌, take, drop, Option, Some, None, Result, Ok, Err, Bool, true, false, refl, ap, sym, subst, ◌∙◌, arith}
+use Rattle.std.proofs.Common.{◌≡◌, ℕ, suc, ◌+◌, ◌-◌, ◌*◌, ◌%◌, ◌<◌, ◌≤◌, List, [], ◌∷◌, ◌++◌, take, drop, Option, Some, None, Result, Ok, Err, Bool, true, false, refl, ap, sym, subst, ◌∙◌, arith}
 use Rattle.std.specs.Prelude.{codes, nat_eq, nat_lt}
 use Rattle.std.specs.Ordering.{nat_cmp}
 use Rattle.std.specs.Cmp.Lexicographic.{slice_cmp}
@@ -31,7 +31,7 @@ use Rattle.ecd_rt.specs.Trees.{pairs_end, key_turn, value_turn}
 use Rattle.ecd_rt.specs.Meanings.{paid_by}
 use Rattle.ecd_rt.proofs.Budgets.{more_bytes, key_stop, order_stop, value_stop, pair_paid}
 use Rattle.ecd_rt.proofs.Windows.{part, inside}
-use Rattle.ecd_rt.proofs.Readers.{place_of, Advances, Next, next_item, pairs_first, key_stop as no_key, order_stop as no_order, value_stop as no_value, pair_go}
+use Rattle.ecd_rt.proofs.Readers.{place_of, Advances, next_item, pairs_first, key_stop as no_key, order_stop as no_order, value_stop as no_value, pair_go}
 use Rattle.ecd_rt.proofs.Spending.{Turn, for_spends}
 use Rattle.ecd_rt.proofs.Following.{Follows, counted, known, paid_none, paid_found, paid_least}
 

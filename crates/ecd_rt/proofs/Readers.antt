@@ -1,5 +1,5 @@
 -- Where readers of items stop, and that the reader of an item finds one.
-use Rattle.std.proofs.Common.{◌≡◌, ℕ, zero, suc, ◌+◌, ◌-◌, ◌<◌, ◌≤◌, Bool, true, false, cond, List, [], ◌∷◌, ◌++◌, length, take, drop, Option, Some, None, Result, Ok, Err, refl, ap, sym, ◌∙◌, arith, length-append, length-drop, length-take}
+use Rattle.std.proofs.Common.{◌≡◌, ℕ, zero, suc, ◌+◌, ◌-◌, ◌<◌, ◌≤◌, Bool, true, false, List, [], ◌∷◌, length, take, drop, Option, Some, None, Result, Ok, Err, refl, ap, sym, ◌∙◌, arith, length-append, length-drop, length-take}
 use Rattle.std.specs.Prelude.{◌≢◌}
 use Rattle.std.proofs.lemmas.List.{drop_at, drop-drop}
 use Rattle.ecd_keyorder.specs.declared.Order.{Order}
@@ -8,10 +8,9 @@ use Rattle.ecd_item.specs.declared.fault.Fault.{Fault}
 use Rattle.ecd_item.specs.declared.item.Item.{Item}
 use Rattle.ecd_item.specs.declared.item.Pair.{Pair}
 use Rattle.ecd_item.specs.Encoding.{encoding}
-use Rattle.ecd_item.specs.Reading.{Reader, Taken, ◌>>=◌, taken, item_at, many, pairs, made, is_above}
+use Rattle.ecd_item.specs.Reading.{Reader, Taken, item_at, many, pairs, made, is_above}
 use Rattle.ecd_item.proofs.Again.{item_again}
-use Rattle.ecd_item.proofs.Takes.{Took, item_takes}
-use Rattle.ecd_head.specs.Place.{StandsAt}
+use Rattle.ecd_item.proofs.Takes.{item_takes}
 use Rattle.ecd_head.proofs.Heads.{IsBytes-drop}
 use Rattle.ecd_fixed.specs.Windows.{IsBytes, IsEnd}
 use Rattle.ecd_fixed.proofs.Framing.{valid_framed}

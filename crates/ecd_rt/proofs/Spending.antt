@@ -2,12 +2,11 @@
 use Rattle.std.proofs.Common.{◌≡◌, ℕ, zero, suc, ◌+◌, ◌<◌, ◌≤◌, ◌⊎◌, inl, inr, List, [], ◌∷◌, subst, arith}
 use Rattle.ecd_cast.specs.declared.tree.Stmt.{Stmt}
 use Rattle.ecd_cast.specs.declared.tree.Stmt.TheVariants.{For}
-use Rattle.ecd_cast.specs.declared.value.Value.{Value}
 use Rattle.ecd_cast.specs.declared.value.Value.TheVariants.{Number as Num}
 use Rattle.ecd_cast.specs.Memory.{Name, Memory}
 use Rattle.ecd_cast.specs.Expressions.{Scopes, lookup, given, Gives}
-use Rattle.ecd_cast.specs.Meaning.{Run, Calls, Place, Code, block, does, shifted, count_of, turns, leave, fall}
-use Rattle.ecd_cast.specs.Ends.{Ends, Behind, With, Does, Answers}
+use Rattle.ecd_cast.specs.Meaning.{Run, Calls, Place, Code, block, does, shifted, count_of, turns, leave}
+use Rattle.ecd_cast.specs.Ends.{Ends, Behind, With, Does}
 use Rattle.ecd_cast.specs.Rules.{Works, Goes}
 use Rattle.ecd_cast.proofs.Calculus.{block_falls, block_returns, ends_step, ends_then, returns_then, ends_within, fall_ends}
 use Rattle.ecd_cast.proofs.Layers.{does-For}

@@ -1,6 +1,5 @@
 -- Behind each turn the functions of the levels so far are there.
-use Rattle.std.proofs.Common.{◌≡◌, ◌≤◌, ◌++◌, sym, subst, ◌∙◌, ap, arith, List}
-use Rattle.ecd_cast.specs.declared.tree.CItem.{CItem}
+use Rattle.std.proofs.Common.{◌≡◌, ◌++◌, sym, subst, ◌∙◌, ap, arith}
 use Rattle.ecd_fixed.specs.Standing.{AreNew}
 use Rattle.ecd_rt.specs.Trees.{any_functions, level_names}
 use Rattle.ecd_rt.specs.Standing.{LevelIsThere, AnyIsThere, AnyMeans}
