@@ -141,7 +141,7 @@ free_of [] g new = refl
 free_of (AStruct s ∷ is) g new = free_of is g new
 free_of (AFunction f ∷ is) g new = rw new.0 (free_of is g new.1)
 
-new_behind : (old front : List CItem) (g : Name) → IsNew g old → IsNew g front → IsNew g (old ++ front)
+pub new_behind : (old front : List CItem) (g : Name) → IsNew g old → IsNew g front → IsNew g (old ++ front)
 new_behind [] front g h k = k
 new_behind (AStruct s ∷ is) front g h k = new_behind is front g h k
 new_behind (AFunction f ∷ is) front g h k = (h.0, new_behind is front g h.1 k)

@@ -1,9 +1,8 @@
 //! The functions that find the end of an item.
 
-ghost use Rattle.std.specs.Prelude.{◌≡◌, [], ◌∷◌, ◌++◌, IfOk, OnOk};
-ghost use Rattle.ecd_cast.specs.declared.tree.Op.TheVariants.{Lt, Gt, Eq, Sub};
-ghost use Rattle.ecd_cast.specs.declared.tree.Expr.TheVariants.{Number as ANumber, Var as AVar};
-ghost use Rattle.ecd_fixed.specs.Shorthands as spec;
+ghost use Rattle.std.specs.Prelude.{◌≡◌, ◌++◌, IfOk, OnOk};
+ghost use Rattle.ecd_cast.specs.declared.tree.Op.TheVariants.{Lt, Sub};
+ghost use Rattle.ecd_cast.specs.declared.tree.Expr.TheVariants.{Var as AVar};
 ghost use Rattle.ecd_fixed.specs.Variables as v;
 ghost use Rattle.ecd_fixed.specs.Heads as heads;
 ghost use Rattle.ecd_fixed.specs.Extents as trees;
@@ -12,43 +11,14 @@ ghost use Rattle.ecd_fixed.specs.Standing.{AreNew, HeadsAreThere, HeadsMean};
 ghost use Rattle.ecd_fixed.specs.ExtentsStanding.{ExtentsAreThere, ExtentsMean};
 
 use crate::shorthands::{
-    byte_here, function, guard, let_call, let_number, none_where, place_args, place_params,
-    window_params,
+    assign, function, let_argument, let_call, let_major, let_number, none_where, of_two,
+    place_params, where_number, window_args, window_params,
 };
 use ecd_cast::build::{binary, give, name, one, var};
 use ecd_cast::builder::Builder;
-use ecd_cast::tree::{CItem, Expr, ExprList, Function, Op, Source, Stmt, StmtList};
+use ecd_cast::tree::{CItem, Expr, Function, Op, Stmt, StmtList};
 use ecd_list::OutOfMemory;
 use std::alloc::Global;
-
-/// `uint64_t major = ((uint64_t)buf[at] >> 5ull);`
-fn let_major(alloc: Global) -> Result<Stmt, OutOfMemory>
-    ensures { IfOk result (λ s. s ≡ trees.let_major) }
-{
-    let high = binary(alloc, Op::Shr, byte_here(alloc)?, Expr::Number(5))?;
-    let_number(alloc, b"major", high)
-}
-
-/// `(left op right)` of two variables
-fn of_two(alloc: Global, op: Op, left: &[u8], right: &[u8]) -> Result<Expr, OutOfMemory>
-    ensures { IfOk result (λ e. e ≡ trees.of_two op left.now right.now) }
-{
-    binary(alloc, op, var(alloc, left)?, var(alloc, right)?)
-}
-
-/// `if (text op number) { return answer; } else { }`
-fn where_number(
-    alloc: Global,
-    op: Op,
-    text: &[u8],
-    number: u64,
-    answer: Expr,
-) -> Result<Stmt, OutOfMemory>
-    ensures { IfOk result (λ s. s ≡ spec.guard op (AVar text.now) (ANumber number) answer) }
-{
-    let left = var(alloc, text)?;
-    guard(alloc, op, left, Expr::Number(number), answer)
-}
 
 /// `if ((len - end) < text) { return 0ull; } else { }`
 fn none_where_short(alloc: Global, text: &[u8]) -> Result<Stmt, OutOfMemory>
@@ -56,23 +26,6 @@ fn none_where_short(alloc: Global, text: &[u8]) -> Result<Stmt, OutOfMemory>
 {
     let left = of_two(alloc, Op::Sub, b"len", b"end")?;
     none_where(alloc, Op::Lt, left, var(alloc, text)?)
-}
-
-/// `(buf, len, text)`
-fn window_args(alloc: Global, text: &[u8]) -> Result<ExprList, OutOfMemory>
-    ensures { IfOk result (λ es. es ≡ AVar v.buf ∷ AVar v.len ∷ AVar text.now ∷ []) }
-{
-    let mut args = one(alloc, var(alloc, b"buf")?)?;
-    args.push(var(alloc, b"len")?)?;
-    args.push(var(alloc, text)?)?;
-    Ok(args)
-}
-
-/// `uint64_t argument = head_argument(buf, at);`
-fn let_argument(alloc: Global) -> Result<Stmt, OutOfMemory>
-    ensures { IfOk result (λ s. s ≡ trees.let_argument) }
-{
-    let_call(alloc, b"argument", b"head_argument", place_args(alloc)?)
 }
 
 /// The head: its end, and its major type.
@@ -131,16 +84,6 @@ fn items_inside(alloc: Global) -> Result<Function, OutOfMemory>
         place_params(alloc)?,
         inside_body(alloc)?,
     )
-}
-
-/// `text = from;`
-fn assign(alloc: Global, text: &[u8], from: Expr) -> Result<Stmt, OutOfMemory>
-    ensures { IfOk result (λ s. s ≡ trees.assign text.now from) }
-{
-    Ok(Stmt::Assign {
-        name: name(alloc, text)?,
-        from: Source::Value(from),
-    })
 }
 
 /// `owed = ((owed - 1ull) + inside);`

@@ -13,7 +13,7 @@ mod extent_tests;
 mod firsts;
 pub mod laws;
 mod loads;
-mod shorthands;
+pub mod shorthands;
 #[cfg(test)]
 mod tests;
 mod utf8;

@@ -3,10 +3,11 @@
 ghost use Rattle.std.specs.Prelude.{◌≡◌, [], ◌∷◌, IfOk};
 ghost use Rattle.ecd_cast.specs.declared.tree.Op.TheVariants.{Add as AnAdd};
 ghost use Rattle.ecd_cast.specs.declared.tree.Stmt.TheVariants.{Return as AReturn, Store as AStore};
-ghost use Rattle.ecd_cast.specs.declared.tree.Expr.TheVariants.{Var as AVar, Binary as ABinary};
+ghost use Rattle.ecd_cast.specs.declared.tree.Expr.TheVariants.{Number as ANumber, Var as AVar, Binary as ABinary};
 ghost use Rattle.ecd_fixed.specs.Shorthands as spec;
 ghost use Rattle.ecd_fixed.specs.Variables as v;
 ghost use Rattle.ecd_fixed.specs.Heads as trees;
+ghost use Rattle.ecd_fixed.specs.Extents as extents;
 
 use ecd_cast::build::{binary, declare_call, load, name, one, var, when};
 use ecd_cast::tree::{
@@ -16,7 +17,7 @@ use ecd_list::OutOfMemory;
 use std::alloc::Global;
 
 /// `if (left op right) { return answer; } else { }`
-pub(crate) fn guard(
+pub fn guard(
     alloc: Global,
     op: Op,
     left: Expr,
@@ -30,19 +31,14 @@ pub(crate) fn guard(
 }
 
 /// `if (left op right) { return 0ull; } else { }`
-pub(crate) fn none_where(
-    alloc: Global,
-    op: Op,
-    left: Expr,
-    right: Expr,
-) -> Result<Stmt, OutOfMemory>
+pub fn none_where(alloc: Global, op: Op, left: Expr, right: Expr) -> Result<Stmt, OutOfMemory>
     ensures { IfOk result (λ s. s ≡ trees.none_where op left right) }
 {
     guard(alloc, op, left, right, Expr::Number(0))
 }
 
 /// `uint64_t text = from;`
-pub(crate) fn let_number(alloc: Global, text: &[u8], from: Expr) -> Result<Stmt, OutOfMemory>
+pub fn let_number(alloc: Global, text: &[u8], from: Expr) -> Result<Stmt, OutOfMemory>
     ensures { IfOk result (λ s. s ≡ spec.let_number text.now from) }
 {
     Ok(Stmt::Number {
@@ -52,7 +48,7 @@ pub(crate) fn let_number(alloc: Global, text: &[u8], from: Expr) -> Result<Stmt,
 }
 
 /// `uint64_t text = function(args);`
-pub(crate) fn let_call(
+pub fn let_call(
     alloc: Global,
     text: &[u8],
     function: &[u8],
@@ -64,7 +60,7 @@ pub(crate) fn let_call(
 }
 
 /// `return text;`
-pub(crate) fn give_variable(alloc: Global, text: &[u8]) -> Result<Stmt, OutOfMemory>
+pub fn give_variable(alloc: Global, text: &[u8]) -> Result<Stmt, OutOfMemory>
     ensures { IfOk result (λ s. s ≡ AReturn (AVar text.now)) }
 {
     Ok(Stmt::Return(var(alloc, text)?))
@@ -85,6 +81,62 @@ pub(crate) fn sum(alloc: Global, left: &[u8], right: &[u8]) -> Result<Expr, OutO
     binary(alloc, Op::Add, left, var(alloc, right)?)
 }
 
+/// `uint64_t major = ((uint64_t)buf[at] >> 5ull);`
+pub fn let_major(alloc: Global) -> Result<Stmt, OutOfMemory>
+    ensures { IfOk result (λ s. s ≡ extents.let_major) }
+{
+    let high = binary(alloc, Op::Shr, byte_here(alloc)?, Expr::Number(5))?;
+    let_number(alloc, b"major", high)
+}
+
+/// `(left op right)` of two variables
+pub fn of_two(alloc: Global, op: Op, left: &[u8], right: &[u8]) -> Result<Expr, OutOfMemory>
+    ensures { IfOk result (λ e. e ≡ extents.of_two op left.now right.now) }
+{
+    binary(alloc, op, var(alloc, left)?, var(alloc, right)?)
+}
+
+/// `if (text op number) { return answer; } else { }`
+pub fn where_number(
+    alloc: Global,
+    op: Op,
+    text: &[u8],
+    number: u64,
+    answer: Expr,
+) -> Result<Stmt, OutOfMemory>
+    ensures { IfOk result (λ s. s ≡ spec.guard op (AVar text.now) (ANumber number) answer) }
+{
+    let left = var(alloc, text)?;
+    guard(alloc, op, left, Expr::Number(number), answer)
+}
+
+/// `(buf, len, text)`
+pub fn window_args(alloc: Global, text: &[u8]) -> Result<ExprList, OutOfMemory>
+    ensures { IfOk result (λ es. es ≡ AVar v.buf ∷ AVar v.len ∷ AVar text.now ∷ []) }
+{
+    let mut args = one(alloc, var(alloc, b"buf")?)?;
+    args.push(var(alloc, b"len")?)?;
+    args.push(var(alloc, text)?)?;
+    Ok(args)
+}
+
+/// `uint64_t argument = head_argument(buf, at);`
+pub fn let_argument(alloc: Global) -> Result<Stmt, OutOfMemory>
+    ensures { IfOk result (λ s. s ≡ extents.let_argument) }
+{
+    let_call(alloc, b"argument", b"head_argument", place_args(alloc)?)
+}
+
+/// `text = from;`
+pub fn assign(alloc: Global, text: &[u8], from: Expr) -> Result<Stmt, OutOfMemory>
+    ensures { IfOk result (λ s. s ≡ extents.assign text.now from) }
+{
+    Ok(Stmt::Assign {
+        name: name(alloc, text)?,
+        from: Source::Value(from),
+    })
+}
+
 /// `out[index] = (uint8_t)from;`
 pub(crate) fn put(alloc: Global, index: Expr, from: Expr) -> Result<Stmt, OutOfMemory>
     ensures { IfOk result (λ s. s ≡ AStore v.out index from) }
@@ -97,14 +149,14 @@ pub(crate) fn put(alloc: Global, index: Expr, from: Expr) -> Result<Stmt, OutOfM
 }
 
 /// `(uint64_t)buf[at]`
-pub(crate) fn byte_here(alloc: Global) -> Result<Expr, OutOfMemory>
+pub fn byte_here(alloc: Global) -> Result<Expr, OutOfMemory>
     ensures { IfOk result (λ e. e ≡ trees.byte_here) }
 {
     load(alloc, b"buf", var(alloc, b"at")?)
 }
 
 /// `(buf, at)`
-pub(crate) fn place_args(alloc: Global) -> Result<ExprList, OutOfMemory>
+pub fn place_args(alloc: Global) -> Result<ExprList, OutOfMemory>
     ensures { IfOk result (λ es. es ≡ AVar v.buf ∷ AVar v.at ∷ []) }
 {
     let mut args = one(alloc, var(alloc, b"buf")?)?;
@@ -122,7 +174,7 @@ pub(crate) fn later_args(alloc: Global, number: u64) -> Result<ExprList, OutOfMe
 }
 
 /// `uint64_t text`
-pub(crate) fn number(alloc: Global, text: &[u8]) -> Result<Param, OutOfMemory>
+pub fn number(alloc: Global, text: &[u8]) -> Result<Param, OutOfMemory>
     ensures { IfOk result (λ p. p ≡ spec.number text.now) }
 {
     Ok(Param {
@@ -132,7 +184,7 @@ pub(crate) fn number(alloc: Global, text: &[u8]) -> Result<Param, OutOfMemory>
 }
 
 /// `const uint8_t *text`
-pub(crate) fn pointer(alloc: Global, text: &[u8]) -> Result<Param, OutOfMemory>
+pub fn pointer(alloc: Global, text: &[u8]) -> Result<Param, OutOfMemory>
     ensures { IfOk result (λ p. p ≡ spec.pointer text.now) }
 {
     Ok(Param {
@@ -152,7 +204,7 @@ pub(crate) fn output(alloc: Global, text: &[u8]) -> Result<Param, OutOfMemory>
 }
 
 /// `(const uint8_t *buf, uint64_t at)`
-pub(crate) fn place_params(alloc: Global) -> Result<ParamList, OutOfMemory>
+pub fn place_params(alloc: Global) -> Result<ParamList, OutOfMemory>
     ensures { IfOk result (λ ps. ps ≡ spec.pointer v.buf ∷ spec.number v.at ∷ []) }
 {
     let mut params = one(alloc, pointer(alloc, b"buf")?)?;
@@ -161,7 +213,7 @@ pub(crate) fn place_params(alloc: Global) -> Result<ParamList, OutOfMemory>
 }
 
 /// `(const uint8_t *buf, uint64_t len, uint64_t at)`
-pub(crate) fn window_params(alloc: Global) -> Result<ParamList, OutOfMemory>
+pub fn window_params(alloc: Global) -> Result<ParamList, OutOfMemory>
     ensures { IfOk result (λ ps. ps ≡ spec.pointer v.buf ∷ spec.number v.len ∷ spec.number v.at ∷ []) }
 {
     let mut params = one(alloc, pointer(alloc, b"buf")?)?;
@@ -171,7 +223,7 @@ pub(crate) fn window_params(alloc: Global) -> Result<ParamList, OutOfMemory>
 }
 
 /// The function of this name.
-pub(crate) fn function(
+pub fn function(
     alloc: Global,
     text: &[u8],
     params: ParamList,

@@ -1,0 +1,14 @@
+pub mod Readers
+pub mod Spending
+pub mod Budgets
+pub mod Windows
+pub mod Following
+pub mod Pairing
+pub mod Naming
+pub mod Texting
+pub mod Behind
+pub mod Deepening
+pub mod Fresh
+pub mod Chaining
+pub mod Climbing
+pub mod Gathering

@@ -1,0 +1,61 @@
+-- All fixed functions of an emitted file, one behind the other.
+use Rattle.std.specs.Prelude.{ℕ, List, [], ◌∷◌, ◌++◌, codes}
+use Rattle.ecd_cast.specs.declared.tree.CItem.{CItem}
+use Rattle.ecd_cast.specs.declared.tree.CItem.TheVariants.{Function as AFunction}
+use Rattle.ecd_cast.specs.Memory.{Name}
+use Rattle.ecd_cast.specs.Meaning.{calls_of}
+use Rattle.ecd_fixed.specs.Heads.{head_functions, head_names}
+use Rattle.ecd_fixed.specs.Extents.{extent_functions, extent_names}
+use Rattle.ecd_fixed.specs.ExtentsStanding.{ExtentsAreThere, ExtentsMean}
+use Rattle.ecd_fixed.specs.Utf8.{utf8_functions, utf8_names, utf8_valid, ChecksUtf8}
+use Rattle.ecd_fixed.specs.Compare.{compare_bytes, ComparesBytes}
+use Rattle.ecd_fixed.specs.HeadWriter.{put_functions, put_names}
+use Rattle.ecd_fixed.specs.Copier.{copy_bytes, CopiesBytes}
+use Rattle.ecd_fixed.specs.Standing.{AreNew, IsAmong, HeadsAreThere, HeadsMean, HeadWriterIsThere, HeadWriterMeans}
+use Rattle.ecd_rt.specs.Trees.{any_functions, any_names}
+use Rattle.ecd_rt.specs.Standing.{AnyIsThere, AnyMeans}
+
+-- what the functions with a depth stand on
+abbrev pub front_functions : List CItem
+front_functions = head_functions ++ (extent_functions ++ (utf8_functions ++ AFunction compare_bytes ∷ []))
+
+abbrev pub front_names : List Name
+front_names = head_names ++ (extent_names ++ (utf8_names ++ codes "compare_bytes" ∷ []))
+
+-- what writes
+abbrev pub writing_functions : List CItem
+writing_functions = put_functions ++ AFunction copy_bytes ∷ []
+
+abbrev pub writing_names : List Name
+writing_names = put_names ++ codes "copy_bytes" ∷ []
+
+abbrev pub runtime_functions : ℕ → List CItem
+runtime_functions depth = front_functions ++ (any_functions depth ++ writing_functions)
+
+abbrev pub runtime_names : ℕ → List Name
+runtime_names depth = front_names ++ (any_names depth ++ writing_names)
+
+-- all of them are there
+pub record RuntimeIsThere (depth : ℕ) (items : List CItem) : Type 0 where
+  pub heads : HeadsAreThere items
+  pub extents : ExtentsAreThere items
+  pub utf8 : IsAmong utf8_valid items
+  pub comparison : IsAmong compare_bytes items
+  pub any : AnyIsThere depth items
+  pub writer : HeadWriterIsThere items
+  pub copier : IsAmong copy_bytes items
+
+-- each of them means what it is to mean
+pub record RuntimeMeans (depth : ℕ) (items : List CItem) : Type 0 where
+  pub heads : HeadsMean items
+  pub extents : ExtentsMean items
+  pub utf8 : ChecksUtf8 (calls_of items (codes "utf8_valid"))
+  pub comparison : ComparesBytes (calls_of items (codes "compare_bytes"))
+  pub any : AnyMeans depth items
+  pub writer : HeadWriterMeans items
+  pub copier : CopiesBytes (calls_of items (codes "copy_bytes"))
+
+-- whatever is appended under other names changes nothing of them
+pub record RuntimeIsKept : Type 0 where
+  pub there : (depth : ℕ) (items more : List CItem) → RuntimeIsThere depth items → RuntimeIsThere depth (items ++ more)
+  pub mean : (depth : ℕ) (items more : List CItem) → AreNew (runtime_names depth) more → RuntimeMeans depth items → RuntimeMeans depth (items ++ more)

@@ -1,0 +1,43 @@
+-- What the functions with a depth stand on, and they themselves, among the items of a program.
+use Rattle.std.specs.Prelude.{ℕ, ◌≤◌, List, codes}
+use Rattle.ecd_cast.specs.declared.tree.CItem.{CItem}
+use Rattle.ecd_cast.specs.Meaning.{calls_of}
+use Rattle.ecd_fixed.specs.Heads.{head_argument}
+use Rattle.ecd_fixed.specs.Extents.{own_end}
+use Rattle.ecd_fixed.specs.ExtentsStanding.{ExtentsAreThere, ExtentsMean}
+use Rattle.ecd_fixed.specs.Utf8.{utf8_valid, ChecksUtf8}
+use Rattle.ecd_fixed.specs.Compare.{compare_bytes, ComparesBytes}
+use Rattle.ecd_fixed.specs.Standing.{IsAmong, HeadsAreThere, HeadsMean}
+use Rattle.ecd_rt.specs.Names.{any_name}
+use Rattle.ecd_rt.specs.Trees.{text_end, any_end}
+use Rattle.ecd_rt.specs.Meanings.{IsAny}
+
+-- the functions that those with a depth stand on are there, so that they may be called
+pub record FrontIsThere (items : List CItem) : Type 0 where
+  pub heads : HeadsAreThere items
+  pub extents : ExtentsAreThere items
+  pub utf8 : IsAmong utf8_valid items
+  pub comparison : IsAmong compare_bytes items
+
+-- each of them means what it is to mean
+pub record FrontMeans (items : List CItem) : Type 0 where
+  pub heads : HeadsMean items
+  pub extents : ExtentsMean items
+  pub utf8 : ChecksUtf8 (calls_of items (codes "utf8_valid"))
+  pub comparison : ComparesBytes (calls_of items (codes "compare_bytes"))
+
+-- what a level stands on besides: the level below, and what looks into texts
+pub record LevelIsThere (below : ℕ) (items : List CItem) : Type 0 where
+  pub own : IsAmong own_end items
+  pub argument : IsAmong head_argument items
+  pub comparison : IsAmong compare_bytes items
+  pub text : IsAmong text_end items
+  pub any : IsAmong (any_end below) items
+
+-- the functions with a depth are there
+abbrev pub AnyIsThere : ℕ → List CItem → Type 0
+AnyIsThere depth items = (deepest : ℕ) → deepest ≤ depth → IsAmong (any_end deepest) items
+
+-- each of them means what it is to mean
+abbrev pub AnyMeans : ℕ → List CItem → Type 0
+AnyMeans depth items = (deepest : ℕ) → deepest ≤ depth → IsAny deepest (calls_of items (any_name deepest))

@@ -1,0 +1,40 @@
+//! The fixed functions of every emitted file, those with a depth among them.
+#![tactic(auto)]
+
+ghost use Rattle.std.specs.Prelude.{◌≡◌, ◌≤◌, ◌++◌, OnOk};
+ghost use Rattle.ecd_fixed.specs.Standing.{AreNew};
+ghost use Rattle.ecd_rt.specs.Runtime.{runtime_functions, runtime_names, RuntimeIsThere, RuntimeMeans};
+
+mod any;
+mod base;
+pub mod laws;
+mod names;
+mod runs;
+#[cfg(test)]
+mod tests;
+
+use crate::any::any_chain;
+use crate::base::{put_front, put_writing};
+use ecd_cast::builder::Builder;
+use ecd_list::OutOfMemory;
+use std::alloc::Global;
+
+/// Puts all fixed functions behind the builder's items: those over heads, extents, the check of UTF-8 and the
+/// comparison of bytes; those with a depth, `any_0` to `any_` of `depth` and what they call; the writer of heads and
+/// the copier. None of their names is taken before.
+///
+/// # Errors
+///
+/// `OutOfMemory` where memory is wanting. The builder may only be dropped then.
+pub fn runtime(alloc: Global, depth: u8, builder: &mut Builder) -> Result<(), OutOfMemory>
+    requires deep { depth ≤ 32 }
+    requires new { AreNew (runtime_names depth) builder.old }
+    ensures items { OnOk result (builder.new ≡ builder.old ++ runtime_functions depth) }
+    ensures there { OnOk result (RuntimeIsThere depth builder.new) }
+    ensures mean { OnOk result (RuntimeMeans depth builder.new) }
+{
+    put_front(alloc, builder)?;
+    any_chain(alloc, depth, builder)?;
+    put_writing(alloc, builder)?;
+    Ok(())
+}
