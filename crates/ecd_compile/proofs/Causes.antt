@@ -15,7 +15,7 @@ use Rattle.ecd_compile.specs.declared.refusal.Refusal.TheVariants.{NotUtf8, Lex,
 use Rattle.ecd_compile.specs.Schema.{IsSchema, IsSyntaxFault, IsNoSchema, IsNoText, BreaksLexemes, BreaksNames, IsNotThin, HasCause, IsTold, HasOneCause}
 use Rattle.ecd_compile.specs.Thin.{IsThin}
 use Rattle.ecd_names.specs.Breaks.{BreaksNone, IsFirst}
-use Rattle.ecd_names.proofs.Firsts.{one_first, none_first}
+use Rattle.ecd_names.proofs.Resolving.{one-first, none-first}
 use Rattle.ecd_compile.specs.Reads.{IsNeverRefused}
 use Rattle.ecd_compile.proofs.LoneRule.{one_thin}
 
@@ -63,13 +63,13 @@ same_tree text t u a b =
 names_same : (text : List ℕ) (p q r s : ℕ) → BreaksNames text p r → BreaksNames text q s → Name p r ≡ Name q s
 names_same text p q r s a b =
     let same : b.tree ≡ a.tree = same_tree text b.tree a.tree b.schema a.schema in
-    let e = one_first a.tree.rules p r q s a.first (subst (λ (t : Tree). IsFirst t.rules q s) same b.first) in
+    let e = one-first a.tree.rules p r q s a.first (subst (λ (t : Tree). IsFirst t.rules q s) same b.first) in
     λ i. Name (e.0 i) (e.1 i)
 
 sound_or_names : (text : List ℕ) (tree : Tree) (p r : ℕ) → BreaksNames text p r → IsSchema text tree → BreaksNone tree.rules → ⊥
 sound_or_names text tree p r a parsed sound =
     let same : a.tree ≡ tree = same_tree text a.tree tree a.schema parsed in
-    none_first tree.rules p r sound (subst (λ (t : Tree). IsFirst t.rules p r) same a.first)
+    none-first tree.rules p r sound (subst (λ (t : Tree). IsFirst t.rules p r) same a.first)
 
 pub one_cause : HasOneCause
 one_cause text root (NotUtf8 p) (NotUtf8 q) x y a b = ap NotUtf8 (one_front text p q a.stands b.stands)

@@ -21,7 +21,7 @@ use Rattle.ecd_uses.specs.Sites.{sites_of}
 use Rattle.ecd_uses.specs.Places.{site_place, IsRuleInside}
 use Rattle.ecd_names.specs.declared.fault.NameFault.{NameFault}
 use Rattle.ecd_names.specs.declared.fault.NameFault.TheVariants as names
-use Rattle.ecd_names.specs.Stub.{TellsFirst}
+use Rattle.ecd_names.specs.Names.{HasCause as HasNameCause}
 use Rattle.ecd_names.specs.Breaks.{Breaks, BreaksNone, RuleBreaks, AtName, AtParameter, AtSite, SiteBreaks, IsFirst}
 use Rattle.ecd_compile.proofs.Causes.{one_cause, never_refused}
 
@@ -99,10 +99,10 @@ rule_inside text before rule whole place number inside (AtSite site among broken
 broken_inside : (rules : List Rule) (whole place number : ℕ) → AllByRecursion (IsRuleInside whole) rules → Breaks rules place number → place ≤ whole
 broken_inside rules whole place number all b = rule_inside rules (take b.index rules) b.rule whole place number (at_number (IsRuleInside whole) rules b.index b.rule all b.stands) b.broken
 
-pub names_within : (rules : List Rule) (whole : ℕ) (fault : NameFault) → AllByRecursion (IsRuleInside whole) rules → TellsFirst rules fault → StandsWithin whole (of_names_is fault)
+pub names_within : (rules : List Rule) (whole : ℕ) (fault : NameFault) → AllByRecursion (IsRuleInside whole) rules → HasNameCause rules fault → StandsWithin whole (of_names_is fault)
 names_within rules whole (names.At place rule) all first = broken_inside rules whole place rule all first.broken
 names_within rules whole names.OutOfMemory all first = tt
 
-pub names_cause : (text root : List ℕ) (tree : Tree) (fault : NameFault) → IsSchema text tree → TellsFirst tree.rules fault → HasCause text root (of_names_is fault)
+pub names_cause : (text root : List ℕ) (tree : Tree) (fault : NameFault) → IsSchema text tree → HasNameCause tree.rules fault → HasCause text root (of_names_is fault)
 names_cause text root tree (names.At place rule) parsed first = record { tree = tree; schema = parsed; first = first }
 names_cause text root tree names.OutOfMemory parsed first = tt

@@ -12,5 +12,5 @@ mod Duplicates
 mod Judging
 mod Preludes
 mod Cycles
-mod Resolving
+pub mod Resolving
 mod Counting
