@@ -38,9 +38,6 @@ lt_true : (a b : ℕ) → a < b → nat_lt a b ≡ true
 lt_true a b h = grind (arith, nat_tests)
 
 module _ (name : List ℕ) where
-  choice : Bool → ℕ → List ℕ → List ℕ
-  choice b n rest = cond b (n ∷ rest) rest
-
   -- ---- one list behind another
 
   pub numbers-append : (n : ℕ) (xs ys : List Rule) → numbers_from n (xs ++ ys) name ≡ numbers_from n xs name ++ numbers_from (n + length xs) ys name
