@@ -1,8 +1,9 @@
 -- The first broken rule of a text, from those of its rules.
 use Rattle.std.proofs.Common.{ℕ, zero, suc, ◌+◌, ◌^◌, ◌≡◌, ◌≢◌, ◌<◌, ◌≤◌, ◌⊎◌, inl, inr, Bool, true, false, List, [], ◌∷◌, ◌++◌, length, take, refl, ap, sym, ◌∙◌, subst, zero-add, arith}
 use Rattle.std.specs.Prelude.{Option, Some, None, slice_get, if◌then◌else◌}
-use Rattle.std.specs.List.{Contains, filter, AllZip}
-use Rattle.std.proofs.lemmas.Option.{slice_get_within}
+use Rattle.std.specs.List.{Contains, Any, filter, AllZip, list_any}
+use Rattle.std.proofs.lemmas.List.Folds.{Any-from_list_any}
+use Rattle.std.proofs.lemmas.Option.{slice_get_within, slice_get-get_or}
 use Rattle.ecd_syntax.specs.declared.tree.Rule.{Rule}
 use Rattle.ecd_uses.specs.declared.site.Site.{Site}
 use Rattle.ecd_uses.specs.declared.site.Site.TheVariants.{Use, Parenthesis}
@@ -13,12 +14,13 @@ use Rattle.ecd_names.specs.declared.first.Broken.{Broken}
 use Rattle.ecd_names.specs.declared.scope.Scope.{Scope}
 use Rattle.ecd_names.specs.declared.fault.NameFault.{NameFault}
 use Rattle.ecd_names.specs.declared.fault.NameFault.TheVariants.{At}
-use Rattle.ecd_names.specs.Breaks.{Breaks, BreaksNone, IsFirst, RuleBreaks, SiteBreaks, UseBreaks, NameBreaks, AtName, AtParameter, AtSite, Undefined, Recursive, OtherArity, OtherKind, Duplicate, OtherParameters, OtherAssign}
+use Rattle.ecd_names.specs.Breaks.{IsOfPrelude, OfPrelude, Breaks, BreaksNone, IsFirst, RuleBreaks, SiteBreaks, UseBreaks, NameBreaks, AtName, AtParameter, AtSite, Undefined, Recursive, OtherArity, OtherKind, Duplicate, OtherParameters, OtherAssign}
 use Rattle.ecd_names.specs.First.{Sees, AnyBelow}
-use Rattle.ecd_names.specs.Laws.{HasOneFirst, NoneIsFirst, RankedBreaksNoThird}
+use Rattle.ecd_names.specs.Laws.{HasOneFirst, NoneIsFirst, RankedBreaksNoThird, PreludeIsKept}
 use Rattle.ecd_names.specs.Names.{BreaksAt, HasFewParameters}
 use Rattle.ecd_names.specs.Scopes.{IsScope, AreScopes}
 use Rattle.ecd_names.proofs.Seeing.{sees_same, first_is, none_is}
+use Rattle.ecd_names.proofs.Naming.{same-name}
 use Rattle.ecd_names.proofs.Judging.{uses_it}
 use Rattle.ecd_names.proofs.Walking.{some_same}
 
@@ -106,3 +108,23 @@ module _ (text : List Rule) (ranked : IsRanked text) where
 
 pub ranked-third : RankedBreaksNoThird
 ranked-third text place ranked b = never-third text ranked place (take b.index text) b.index b.rule b.stands b.broken
+
+-- ---- names of the prelude
+
+pub prelude-kept : PreludeIsKept
+prelude-kept text name none of = by_test (list_any (is_named name) text) refl
+  where
+    duplicate : Any (λ rule. is_named name rule ≡ true) text → ⊥
+    duplicate any =
+        let rule = any.1 in
+        let same : rule.name.text ≡ name = same-name rule.name.text name any.4 in
+        none rule.name.at 1 (record {
+          index = any.0;
+          rule = rule;
+          stands = slice_get-get_or text any.0 rule any.2 ∙ ap Some any.3;
+          broken = AtName refl (Duplicate refl (OfPrelude (subst (λ (n : List ℕ). IsOfPrelude n) (sym same) of)));
+        })
+
+    by_test : (b : Bool) → list_any (is_named name) text ≡ b → b ≡ false
+    by_test true e = absurd (duplicate (Any-from_list_any (is_named name) text e))
+    by_test false e = refl

@@ -1,8 +1,9 @@
 -- What holds of the rules of names.
-use Rattle.std.specs.Prelude.{ℕ, ◌≡◌, List}
+use Rattle.std.specs.Prelude.{ℕ, ◌≡◌, false, List}
 use Rattle.ecd_syntax.specs.declared.tree.Rule.{Rule}
 use Rattle.ecd_rules.specs.Leading.{IsRanked}
-use Rattle.ecd_names.specs.Breaks.{Breaks, BreaksNone, IsFirst}
+use Rattle.ecd_rules.specs.Named.{is_in_text}
+use Rattle.ecd_names.specs.Breaks.{IsOfPrelude, Breaks, BreaksNone, IsFirst}
 
 -- a text has at most one first broken rule
 abbrev pub HasOneFirst : Type 0
@@ -15,3 +16,7 @@ NoneIsFirst = (text : List Rule) (place number : ℕ) → BreaksNone text → Is
 -- where names have a ranking, no use leads back
 abbrev pub RankedBreaksNoThird : Type 0
 RankedBreaksNoThird = (text : List Rule) (place : ℕ) → IsRanked text → Breaks text place 3 → ⊥
+
+-- where none is broken, the text has no rule of a prelude name
+abbrev pub PreludeIsKept : Type 0
+PreludeIsKept = (text : List Rule) (name : List ℕ) → BreaksNone text → IsOfPrelude name → is_in_text text name ≡ false

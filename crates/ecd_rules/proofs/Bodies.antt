@@ -1,14 +1,13 @@
 -- The bodies of names that the text does not touch.
-use Rattle.std.proofs.Common.{◌≡◌, ◌↔◌, ◌⊎◌, inl, inr, ℕ, zero, suc, ◌+◌, ◌<◌, Bool, true, false, cond, ◌||◌, ◌&&◌, List, [], ◌∷◌, ◌++◌, length, get_or, map, Option, Some, None, nat_eq, refl, sym, ap, ◌∙◌, subst, append-nil, length-append, arith, Contains, is_some, eqb-true}
+use Rattle.std.proofs.Common.{◌≡◌, inl, ℕ, zero, suc, ◌<◌, Bool, true, false, cond, ◌||◌, ◌&&◌, List, [], ◌∷◌, ◌++◌, length, get_or, map, nat_eq, refl, sym, ap, ◌∙◌, append-nil, length-append, arith, Contains, is_some, eqb-true}
 use Rattle.std.specs.Prelude.{slice_get, IsSome}
 use Rattle.std.specs.List.{filter, list_any, list_all, position}
 use Rattle.std.proofs.lemmas.List.Elements.{filter-append}
-use Rattle.std.proofs.lemmas.List.{get_or_past}
 use Rattle.ecd_prelude.specs.Laws.{name_in}
 use Rattle.ecd_prelude.specs.Prelude.{prelude_rules, float_names}
 use Rattle.ecd_syntax.specs.declared.tree.Rule.{Rule}
 use Rattle.ecd_rules.specs.Laws.{UntouchedKeepBodies, PreludeGivesOneBody, FloatsHaveNoBody, UndefinedHaveNoBody}
-use Rattle.ecd_rules.specs.Named.{is_named, all_rules, bodies_of, is_in_text, IsDefined, first_of}
+use Rattle.ecd_rules.specs.Named.{is_named, all_rules, bodies_of}
 use Rattle.ecd_rules.proofs.Numbering.{first_number, length-numbers}
 use Rattle.ecd_rules.specs.Numbers.{numbers_from}
 

@@ -1,5 +1,5 @@
 -- The groups solve what defines them.
-use Rattle.std.proofs.Common.{◌≡◌, ◌↔◌, ◌⊎◌, inl, inr, ℕ, zero, suc, List}
+use Rattle.std.proofs.Common.{◌⊎◌, inl, inr, ℕ, zero, suc, List}
 use Rattle.ecd_syntax.specs.declared.tree.Name.{Name}
 use Rattle.ecd_syntax.specs.declared.tree.Rule.{Rule}
 use Rattle.ecd_uses.specs.declared.site.Lead.{Lead}

@@ -1,5 +1,5 @@
 -- What the graph of causes reaches from its source is what is a group.
-use Rattle.std.proofs.Common.{◌≡◌, ◌↔◌, ◌⊎◌, inl, inr, ℕ, zero, suc, ◌+◌, ◌-◌, ◌<◌, ◌≤◌, Bool, true, false, cond, List, [], ◌∷◌, ◌++◌, length, get_or, Option, Some, None, refl, sym, ap, ◌∙◌, subst, arith, Contains, is_some}
+use Rattle.std.proofs.Common.{◌≡◌, ◌↔◌, ◌⊎◌, inl, inr, ℕ, zero, suc, ◌+◌, ◌-◌, ◌<◌, ◌≤◌, Bool, true, false, cond, List, [], ◌∷◌, length, get_or, Option, Some, None, refl, sym, ap, ◌∙◌, subst, arith, Contains, is_some}
 use Rattle.std.specs.Prelude.{slice_get, IsSome, flat_map}
 use Rattle.std.specs.List.{position}
 use Rattle.std.proofs.lemmas.Bool.{cases_lt}
@@ -15,7 +15,7 @@ use Rattle.ecd_uses.specs.declared.site.Lead.{Lead}
 use Rattle.ecd_uses.specs.declared.site.Lead.TheVariants as leads
 use Rattle.ecd_uses.specs.Leads.{lead_of}
 use Rattle.ecd_rules.specs.Named.{all_rules, is_named, is_parameter}
-use Rattle.ecd_rules.specs.Kinds.{IsSocket, IsGroupSocket, LeadsToGroup, MakesGroup, HasGroupRule, GroupWithin, IsGroup}
+use Rattle.ecd_rules.specs.Kinds.{IsSocket, IsGroupSocket, LeadsToGroup, MakesGroup, GroupWithin, IsGroup}
 use Rattle.ecd_rules.specs.Causes.{begins_socket, begins_group_socket, is_group_more, node_or_source, lead_cause, rule_cause, edge_between, edges_of_rule}
 use Rattle.ecd_rules.proofs.Firsts.{FirstAt, first_at, among, one_name, has_first}
 use Rattle.ecd_rules.proofs.Numbering.{slice_get_left, slice_get_right}

@@ -1,7 +1,7 @@
 -- Ranks fall along the uses of names.
-use Rattle.std.proofs.Common.{ℕ, zero, suc, ◌≡◌, ◌<◌, ◌≤◌, List, subst, ap, arith}
+use Rattle.std.proofs.Common.{ℕ, zero, suc, ◌≡◌, ◌≤◌, List, ap, arith}
 use Rattle.ecd_syntax.specs.declared.tree.Rule.{Rule}
-use Rattle.ecd_rules.specs.Leading.{Uses, LeadsWithin, LeadsTo, IsRanked}
+use Rattle.ecd_rules.specs.Leading.{LeadsWithin, IsRanked}
 use Rattle.ecd_rules.specs.Laws.{RankedNeverLeadsBack}
 
 not_above : (text : List Rule) (r : IsRanked text) (steps : ℕ) (a b : List ℕ) → LeadsWithin text steps a b → r.rank b ≤ r.rank a

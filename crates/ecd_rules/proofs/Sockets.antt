@@ -1,5 +1,5 @@
 -- Names that begin with `$`.
-use Rattle.std.proofs.Common.{◌≡◌, ℕ, Bool, true, false, ◌&&◌, List, [], ◌∷◌, nat_eq, refl, sym, ap, ◌∙◌, eqb-true}
+use Rattle.std.proofs.Common.{◌≡◌, ℕ, Bool, true, false, ◌&&◌, List, [], ◌∷◌, nat_eq, refl, ap, ◌∙◌, eqb-true}
 use Rattle.ecd_rules.specs.Kinds.{IsSocket, IsGroupSocket}
 use Rattle.ecd_rules.specs.Causes.{begins_socket, begins_group_socket}
 

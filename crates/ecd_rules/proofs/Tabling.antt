@@ -1,5 +1,5 @@
 -- What a table answers.
-use Rattle.std.proofs.Common.{◌≡◌, ◌↔◌, ℕ, ◌+◌, ◌-◌, suc, ◌<◌, ◌≤◌, ◌^◌, Bool, true, cond, List, [], ◌∷◌, ◌++◌, length, Option, Some, None, nat_le, get_or, refl, Vec, Global, sym, ap, ◌∙◌, subst, arith}
+use Rattle.std.proofs.Common.{◌≡◌, ◌↔◌, ℕ, ◌+◌, ◌-◌, suc, ◌<◌, ◌≤◌, ◌^◌, Bool, true, cond, List, [], ◌∷◌, ◌++◌, length, Some, None, nat_le, get_or, refl, Vec, Global, sym, ap, ◌∙◌, subst, arith}
 use Rattle.std.specs.Prelude.{slice_get, false}
 use Rattle.std.specs.List.{filter, list_any}
 use Rattle.std.proofs.lemmas.Option.{slice_get-get_or, slice_get_within}

@@ -1,5 +1,5 @@
 -- What makes names groups, as edges of a graph. The node of a name is the number of its first rule, and one node more, the source, makes a group by itself.
-use Rattle.std.specs.Prelude.{◌≡◌, ◌↔◌, ℕ, Bool, true, false, ◌&&◌, if◌then◌else◌, List, [], ◌∷◌, Option, Some, None, nat_eq, flat_map, get_or}
+use Rattle.std.specs.Prelude.{◌≡◌, ◌↔◌, ℕ, Bool, true, false, ◌&&◌, if◌then◌else◌, List, [], ◌∷◌, Option, Some, None, nat_eq, get_or}
 use Rattle.ecd_graph.specs.declared.edge.Edge.{Edge}
 use Rattle.ecd_syntax.specs.declared.tree.Assign.{Assign}
 use Rattle.ecd_syntax.specs.declared.tree.Assign.TheVariants.{Define, TypeMore, GroupMore}

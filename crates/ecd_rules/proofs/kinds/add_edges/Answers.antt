@@ -1,4 +1,4 @@
-use Rattle.std.proofs.Common.{◌≡◌, ◌++◌, ap, sym, ◌∙◌}
+use Rattle.std.proofs.Common.{◌≡◌, ◌++◌, ap, ◌∙◌}
 use Rattle.ecd_rules.specs.Numbers.{first_in}
 use Rattle.ecd_rules.specs.Causes.{edges_of_rule, edge_between, rule_cause}
 use Rattle.ecd_rules.proofs.Gathering.{gathered}

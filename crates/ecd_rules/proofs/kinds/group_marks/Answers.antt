@@ -1,6 +1,5 @@
-use Rattle.std.proofs.Common.{◌≡◌, ◌↔◌, ℕ, suc, List, Bool, [], ◌++◌, length, ◌∙◌, sym, ap, subst}
+use Rattle.std.proofs.Common.{◌≡◌, ◌↔◌, ℕ, suc, List, Bool, ◌++◌, length, ◌∙◌, sym, ap, subst}
 use Rattle.std.specs.Prelude.{flat_map}
-use Rattle.ecd_graph.specs.declared.edge.Edge.{Edge}
 use Rattle.ecd_graph.specs.Graphs.{IsMarked}
 use Rattle.ecd_rules.specs.Numbers.{first_in}
 use Rattle.ecd_rules.specs.Causes.{edges_of_rule}

@@ -1,4 +1,4 @@
-use Rattle.std.proofs.Common.{◌≡◌, ◌↔◌, ℕ, Bool, true, false, List, [], ◌∷◌, ◌++◌, replicate, ap, sym, ◌∙◌, subst}
+use Rattle.std.proofs.Common.{◌≡◌, ◌↔◌, Bool, true, false, List, [], ◌∷◌, ◌++◌, replicate, ap, sym, ◌∙◌, subst}
 use Rattle.ecd_graph.specs.Graphs.{IsMarked}
 use Rattle.ecd_rules.proofs.Marking.{marks_source}
 use Rattle.ecd_rules.proofs.kinds.source_mark.Goals as goal

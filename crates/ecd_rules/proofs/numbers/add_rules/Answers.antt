@@ -1,7 +1,7 @@
-use Rattle.std.proofs.Common.{◌≡◌, ◌+◌, ◌<◌, ◌≤◌, ◌++◌, ℕ, List, take, length, arith, rules, sym, ap, ◌∙◌}
+use Rattle.std.proofs.Common.{◌≡◌, ◌+◌, ◌++◌, take, length, arith, rules, sym, ap, ◌∙◌}
 use Rattle.std.specs.Str.{bytes_eq}
 use Rattle.std.proofs.lemmas.List.{length-take-le}
-use Rattle.ecd_rules.specs.Numbers.{numbers_in, numbers_from, with_number}
+use Rattle.ecd_rules.specs.Numbers.{numbers_in, numbers_from}
 use Rattle.ecd_rules.proofs.Numbering.{numbers_more, joined, with_same}
 use Rattle.ecd_rules.proofs.numbers.add_rules.Goals as goal
 

@@ -1,4 +1,4 @@
-use Rattle.std.proofs.Common.{◌≡◌, Some, length, ap, sym, ◌∙◌}
+use Rattle.std.proofs.Common.{ap, sym, ◌∙◌}
 use Rattle.std.specs.Option.{option_copied}
 use Rattle.ecd_rules.specs.Named.{bodies_of}
 use Rattle.ecd_rules.proofs.Tabling.{arity_some, arity_none}

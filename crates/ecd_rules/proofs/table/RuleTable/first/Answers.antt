@@ -1,4 +1,4 @@
-use Rattle.std.proofs.Common.{◌≡◌, ℕ, List, subst, ◌∙◌, ap}
+use Rattle.std.proofs.Common.{◌∙◌, ap}
 use Rattle.ecd_rules.specs.Named.{first_of}
 use Rattle.ecd_rules.proofs.Tabling.{first_is}
 use Rattle.ecd_rules.proofs.table.RuleTable.first.Goals as goal

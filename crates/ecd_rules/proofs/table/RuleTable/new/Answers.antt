@@ -1,4 +1,4 @@
-use Rattle.std.proofs.Common.{◌≡◌, ◌++◌, sym, ◌∙◌}
+use Rattle.std.proofs.Common.{◌++◌, sym, ◌∙◌}
 use Rattle.ecd_rules.proofs.Tabling.{all_same, numbered_all, table_made}
 use Rattle.ecd_rules.proofs.table.RuleTable.new.Goals as goal
 

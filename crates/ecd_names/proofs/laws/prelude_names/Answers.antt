@@ -1,0 +1,5 @@
+use Rattle.ecd_names.proofs.Resolving.{prelude-kept}
+use Rattle.ecd_names.proofs.laws.prelude_names.Goals as goal
+
+pub returns : goal.returns
+returns c = prelude-kept
