@@ -1,14 +1,11 @@
 -- Names that lead back to themselves do so by a rule of the text.
-use Rattle.std.proofs.Common.{ℕ, zero, suc, ◌+◌, ◌≡◌, ◌<◌, ◌≤◌, ◌⊎◌, inl, inr, false, List, [], ◌∷◌, ◌++◌, length, refl, ap, sym, ◌∙◌, subst, arith}
-use Rattle.std.specs.Prelude.{Some, slice_get}
+use Rattle.std.proofs.Common.{ℕ, zero, suc, ◌≡◌, ◌<◌, ◌≤◌, ◌⊎◌, inl, inr, List, refl, ap, sym, subst, arith}
 use Rattle.std.specs.List.{Contains}
 use Rattle.std.proofs.lemmas.List.Elements.{Contains-append_cases}
 use Rattle.ecd_prelude.specs.Prelude.{prelude_rules}
-use Rattle.ecd_syntax.specs.declared.tree.Name.{Name}
 use Rattle.ecd_syntax.specs.declared.tree.Rule.{Rule}
-use Rattle.ecd_uses.specs.declared.site.Asked.{Asked}
 use Rattle.ecd_uses.specs.declared.site.Site.TheVariants.{Use}
-use Rattle.ecd_rules.specs.Leading.{IsUse, Uses, LeadsWithin, LeadsTo, IsRanked}
+use Rattle.ecd_rules.specs.Leading.{Uses, LeadsWithin, LeadsTo}
 use Rattle.ecd_names.specs.Breaks.{Breaks, BreaksNone, AtSite, Recursive}
 use Rattle.ecd_names.proofs.Walking.{at_element}
 use Rattle.ecd_names.proofs.Preludes.{prelude_rank, prelude-falls}

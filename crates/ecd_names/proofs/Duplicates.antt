@@ -1,6 +1,6 @@
 -- Names that the prelude or a rule before this one defines.
-use Rattle.std.proofs.Common.{ℕ, zero, suc, ◌+◌, ◌≡◌, ◌<◌, ◌⊎◌, inl, inr, Bool, true, false, ◌||◌, List, [], ◌∷◌, ◌++◌, length, take, refl, ap, sym, ◌∙◌, subst, append-nil, zero-add, arith}
-use Rattle.std.specs.Prelude.{Option, Some, None, IsSome, is_some}
+use Rattle.std.proofs.Common.{ℕ, suc, ◌+◌, ◌≡◌, ◌⊎◌, inl, inr, Bool, true, false, ◌||◌, List, [], ◌∷◌, ◌++◌, length, take, refl, ap, sym, ◌∙◌, subst, append-nil, zero-add, arith}
+use Rattle.std.specs.Prelude.{Option, is_some}
 use Rattle.std.specs.List.{Contains, position, position_from, list_any}
 use Rattle.std.proofs.lemmas.List.Folds.{list_any-append}
 use Rattle.ecd_prelude.specs.Prelude.{prelude_rules, float_names}
@@ -11,7 +11,6 @@ use Rattle.ecd_names.specs.Breaks.{IsDuplicate, OfPrelude, Again}
 use Rattle.ecd_names.specs.Parameters.{comes_before}
 use Rattle.ecd_names.proofs.Positions.{position-from, from-before}
 use Rattle.ecd_names.proofs.Nodes.{position-some}
-use Rattle.ecd_names.proofs.Walking.{take-all}
 
 module _ {A : Type 0} where
   take-past : (xs ys : List A) (k : ℕ) → take (length xs + k) (xs ++ ys) ≡ xs ++ take k ys

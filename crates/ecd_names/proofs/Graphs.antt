@@ -1,20 +1,19 @@
 -- Names that lead to each other, and nodes that reach each other.
-use Rattle.std.proofs.Common.{ℕ, zero, suc, ◌≡◌, ◌<◌, ◌≤◌, ◌⊎◌, inl, inr, Bool, true, false, List, [], ◌∷◌, ◌++◌, length, refl, ap, sym, ◌∙◌, subst, arith}
-use Rattle.std.specs.Prelude.{Option, Some, None, slice_get, if◌then◌else◌, flat_map}
+use Rattle.std.proofs.Common.{ℕ, zero, suc, ◌≡◌, Bool, true, false, List, [], ◌∷◌, refl, ap, sym, ◌∙◌, subst}
+use Rattle.std.specs.Prelude.{Option, Some, None, flat_map}
 use Rattle.std.specs.List.{Contains}
 use Rattle.ecd_graph.specs.declared.edge.Edge.{Edge}
 use Rattle.ecd_graph.specs.Graphs.{IsEdge, Walks, Reaches}
 use Rattle.ecd_syntax.specs.declared.tree.Name.{Name}
 use Rattle.ecd_syntax.specs.declared.tree.Rule.{Rule}
 use Rattle.ecd_uses.specs.declared.site.Asked.{Asked}
-use Rattle.ecd_uses.specs.declared.site.Lead.{Lead}
 use Rattle.ecd_uses.specs.declared.site.Site.{Site}
 use Rattle.ecd_uses.specs.declared.site.Site.TheVariants.{Use, Parenthesis}
 use Rattle.ecd_uses.specs.Sites.{sites_of}
 use Rattle.ecd_rules.specs.Named.{is_parameter}
 use Rattle.ecd_rules.specs.Leading.{IsUse, Uses, LeadsWithin, LeadsTo}
 use Rattle.ecd_names.specs.Edges.{edge_between, site_edges, rule_edges}
-use Rattle.ecd_names.proofs.Walking.{some_same, none_in, only_in, in_only, flat_in, in_flat, element_at, at_element}
+use Rattle.ecd_names.proofs.Walking.{some_same, none_in, only_in, in_only, flat_in, in_flat}
 use Rattle.ecd_names.proofs.Linking.{free-edges, parameter-edges}
 
 -- ---- edges are uses

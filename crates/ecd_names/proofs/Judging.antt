@@ -1,27 +1,26 @@
 -- What a rule breaks, from its parts.
-use Rattle.std.proofs.Common.{ℕ, ◌+◌, ◌≡◌, ◌≢◌, ◌<◌, ◌≤◌, ◌⊎◌, inl, inr, Bool, true, false, List, [], ◌∷◌, ◌++◌, length, take, get_or, refl, ap, sym, ◌∙◌, subst, arith}
-use Rattle.std.specs.Prelude.{Option, Some, None, nat_eq, not, slice_get}
+use Rattle.std.proofs.Common.{ℕ, ◌≡◌, ◌≢◌, ◌≤◌, inl, inr, Bool, true, false, List, length, take, refl, sym, ◌∙◌, subst, arith}
+use Rattle.std.specs.Prelude.{Option, Some, nat_eq, not, slice_get}
 use Rattle.std.specs.List.{Contains}
 use Rattle.std.proofs.lemmas.Bool.Decides.{nat_tests}
 use Rattle.std.proofs.lemmas.List.Elements.{Contains-append_right}
 use Rattle.std.proofs.lemmas.Option.{slice_get_within}
 use Rattle.ecd_prelude.specs.Prelude.{prelude_rules}
-use Rattle.ecd_syntax.specs.declared.tree.Assign.{Assign}
 use Rattle.ecd_syntax.specs.declared.tree.Assign.TheVariants.{Define, TypeMore, GroupMore}
 use Rattle.ecd_syntax.specs.declared.tree.Name.{Name}
 use Rattle.ecd_syntax.specs.declared.tree.Rule.{Rule}
 use Rattle.ecd_uses.specs.declared.site.Asked.{Asked}
 use Rattle.ecd_uses.specs.declared.site.Site.{Site}
-use Rattle.ecd_uses.specs.declared.site.Site.TheVariants.{Use, Parenthesis}
+use Rattle.ecd_uses.specs.declared.site.Site.TheVariants.{Use}
 use Rattle.ecd_uses.specs.Sites.{sites_of}
-use Rattle.ecd_rules.specs.Named.{all_rules, arity_of, is_parameter}
+use Rattle.ecd_rules.specs.Named.{arity_of, is_parameter}
 use Rattle.ecd_rules.specs.Kinds.{IsGroupSocket, IsGroup}
-use Rattle.ecd_rules.specs.Leading.{IsUse, Uses}
+use Rattle.ecd_rules.specs.Leading.{Uses}
 use Rattle.ecd_names.specs.declared.first.Broken.{Broken}
-use Rattle.ecd_names.specs.Breaks.{IsDuplicate, IsRepeated, IsUndefined, IsRecursive, arity_in, IsOtherKind, IsOtherAssign, UseBreaks, NameBreaks, RuleBreaks, SiteBreaks}
+use Rattle.ecd_names.specs.Breaks.{IsDuplicate, IsUndefined, IsRecursive, arity_in, IsOtherKind, IsOtherAssign, UseBreaks, NameBreaks, RuleBreaks, SiteBreaks}
 use Rattle.ecd_names.specs.Breaks.{Undefined, Recursive, OtherArity, OtherKind, Duplicate, OtherParameters, OtherAssign, AtName, AtParameter, AtSite, TypeForGroupName, GroupForTypeSocket, GroupAsTypeSocket, TypeForGroupSocket}
-use Rattle.ecd_names.specs.First.{Faults, Sees, When, EachOf, AnyBelow}
-use Rattle.ecd_names.specs.Parameters.{RepeatedAt, RepeatsOne}
+use Rattle.ecd_names.specs.First.{Faults, Sees, When, EachOf}
+use Rattle.ecd_names.specs.Parameters.{RepeatsOne}
 use Rattle.ecd_names.specs.Scenes.{NameFaults}
 use Rattle.ecd_names.proofs.Seeing.{Either, sees_then, sees_same}
 use Rattle.ecd_names.proofs.Walking.{element_at, take-all}

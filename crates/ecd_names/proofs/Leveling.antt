@@ -1,18 +1,17 @@
 -- Levels of names, and where names lead back.
-use Rattle.std.proofs.Common.{ℕ, zero, suc, ◌≡◌, ◌≢◌, ◌<◌, ◌≤◌, ◌↔◌, false, List, [], ◌∷◌, length, get_or, refl, ap, sym, ◌∙◌, subst, arith}
-use Rattle.std.specs.Prelude.{Option, Some, None, slice_get, flat_map}
-use Rattle.std.specs.List.{Contains}
+use Rattle.std.proofs.Common.{ℕ, suc, ◌≡◌, ◌≢◌, ◌<◌, ◌↔◌, false, List, length, get_or, refl, ap, sym, ◌∙◌, subst, arith}
+use Rattle.std.specs.Prelude.{Option, Some, None}
 use Rattle.ecd_graph.specs.declared.edge.Edge.{Edge}
 use Rattle.ecd_graph.specs.Graphs.{IsEdge, Reaches, AreAmong, NumbersComponents, AreInOrder}
 use Rattle.ecd_syntax.specs.declared.tree.Rule.{Rule}
 use Rattle.ecd_rules.specs.Named.{all_rules, first_of, is_parameter}
 use Rattle.ecd_rules.specs.Leading.{Uses, LeadsTo, IsRanked}
 use Rattle.ecd_names.specs.Breaks.{IsRecursive}
-use Rattle.ecd_names.specs.Edges.{rule_edges, edges_of, AreLevels}
+use Rattle.ecd_names.specs.Edges.{edges_of, AreLevels}
 use Rattle.ecd_names.specs.Scenes.{HaveOneLevel}
 use Rattle.ecd_names.proofs.Walking.{some_same, element_at, at_element}
 use Rattle.ecd_names.proofs.Nodes.{node-named, node-below, node-of}
-use Rattle.ecd_names.proofs.Graphs.{AreNodes, IsUseEdge, use-edge, edge-use, leads-reaches, reaches-leads, node-leads}
+use Rattle.ecd_names.proofs.Graphs.{AreNodes, use-edge, edge-use, leads-reaches, reaches-leads, node-leads}
 
 module _ (text : List Rule) where
   one-node : (a b : List ℕ) (n : ℕ) → first_of text a ≡ Some n → first_of text b ≡ Some n → a ≡ b

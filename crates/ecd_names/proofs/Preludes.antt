@@ -1,6 +1,6 @@
 -- Each rule of the prelude uses only names of rules before it.
-use Rattle.std.proofs.Common.{ℕ, zero, suc, ◌+◌, ◌≡◌, ◌<◌, Bool, true, false, ◌&&◌, ◌||◌, List, [], ◌∷◌, ◌++◌, length, refl, ap, sym, ◌∙◌, subst, append-nil, rules, arith}
-use Rattle.std.specs.Prelude.{Option, Some, None, nat_lt, codes, flat_map}
+use Rattle.std.proofs.Common.{ℕ, suc, ◌≡◌, ◌<◌, Bool, true, false, ◌&&◌, ◌||◌, List, [], ◌∷◌, ◌++◌, refl, ap, ◌∙◌, subst, append-nil, rules, arith}
+use Rattle.std.specs.Prelude.{Option, Some, None, nat_lt, flat_map}
 use Rattle.std.specs.List.{Contains, AllByRecursion, position_from, list_all}
 use Rattle.std.proofs.lemmas.Bool.Decides.{nat_tests}
 use Rattle.std.proofs.lemmas.List.Elements.{All-from_recursion, All-contains}
@@ -15,21 +15,19 @@ use Rattle.ecd_syntax.specs.declared.tree.Key.{Key}
 use Rattle.ecd_syntax.specs.declared.tree.Key.TheVariants as keys
 use Rattle.ecd_syntax.specs.declared.tree.Alts.{Alts}
 use Rattle.ecd_syntax.specs.declared.tree.Name.{Name}
-use Rattle.ecd_syntax.specs.declared.tree.Operation.{Operation}
 use Rattle.ecd_syntax.specs.declared.tree.Rule.{Rule}
 use Rattle.ecd_syntax.specs.declared.tree.Type1.{Type1, out-Type1}
-use Rattle.ecd_syntax.specs.declared.tree.Type2.{Type2, out-Type2}
+use Rattle.ecd_syntax.specs.declared.tree.Type2.{out-Type2}
 use Rattle.ecd_syntax.specs.declared.tree.WayTree.{WayTree, out-WayTree}
-use Rattle.ecd_syntax.specs.Reading.{alts_of, operand_of, choice_of, way_of, group_of, entry_of}
+use Rattle.ecd_syntax.specs.Reading.{alts_of, operand_of, way_of, group_of, entry_of}
 use Rattle.ecd_uses.specs.declared.site.Asked.{Asked}
 use Rattle.ecd_uses.specs.declared.site.Asked.TheVariants.{AType}
 use Rattle.ecd_uses.specs.declared.site.Site.{Site}
 use Rattle.ecd_uses.specs.declared.site.Site.TheVariants.{Use, Parenthesis}
-use Rattle.ecd_uses.specs.Sites.{sites_of, type_asked, is_keyed, are_several, entry_sites, key_sites, type_sites, choice_sites, form_sites, group_sites}
-use Rattle.ecd_uses.specs.Listed.{operated_sites, operand_sites, choices_listed, entries_listed, way_listed, named_sites}
+use Rattle.ecd_uses.specs.Sites.{sites_of, type_asked, is_keyed, are_several, entry_sites, key_sites, type_sites, choice_sites, form_sites}
+use Rattle.ecd_uses.specs.Listed.{operated_sites, choices_listed, entries_listed, way_listed}
 use Rattle.ecd_uses.proofs.Layers.{entry-sites, key-sites, type-sites, choice-sites, named-sites, array-sites, tag-sites, hash-sites, group-sites}
 use Rattle.ecd_rules.specs.Named.{is_named}
-use Rattle.ecd_names.proofs.Walking.{no_element}
 
 -- ---- the sites of each form
 

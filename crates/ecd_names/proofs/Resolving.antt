@@ -1,20 +1,17 @@
 -- The first broken rule of a text, from those of its rules.
-use Rattle.std.proofs.Common.{ℕ, zero, suc, ◌+◌, ◌^◌, ◌≡◌, ◌≢◌, ◌<◌, ◌≤◌, ◌⊎◌, inl, inr, Bool, true, false, List, [], ◌∷◌, ◌++◌, length, take, refl, ap, sym, ◌∙◌, subst, zero-add, arith}
+use Rattle.std.proofs.Common.{ℕ, zero, suc, ◌+◌, ◌^◌, ◌≡◌, ◌<◌, ◌≤◌, ◌⊎◌, inl, inr, Bool, true, false, List, [], ◌∷◌, ◌++◌, length, take, refl, ap, sym, ◌∙◌, subst, zero-add, arith}
 use Rattle.std.specs.Prelude.{Option, Some, None, slice_get, if◌then◌else◌}
-use Rattle.std.specs.List.{Contains, Any, filter, AllZip, list_any}
+use Rattle.std.specs.List.{Any, filter, AllZip, list_any}
 use Rattle.std.proofs.lemmas.List.Folds.{Any-from_list_any}
 use Rattle.std.proofs.lemmas.Option.{slice_get_within, slice_get-get_or}
 use Rattle.ecd_syntax.specs.declared.tree.Rule.{Rule}
-use Rattle.ecd_uses.specs.declared.site.Site.{Site}
 use Rattle.ecd_uses.specs.declared.site.Site.TheVariants.{Use, Parenthesis}
-use Rattle.ecd_uses.specs.Sites.{sites_of}
 use Rattle.ecd_rules.specs.Named.{all_rules, first_arity, is_named}
-use Rattle.ecd_rules.specs.Leading.{Uses, LeadsWithin, LeadsTo, IsRanked}
+use Rattle.ecd_rules.specs.Leading.{LeadsWithin, IsRanked}
 use Rattle.ecd_names.specs.declared.first.Broken.{Broken}
 use Rattle.ecd_names.specs.declared.scope.Scope.{Scope}
-use Rattle.ecd_names.specs.declared.fault.NameFault.{NameFault}
 use Rattle.ecd_names.specs.declared.fault.NameFault.TheVariants.{At}
-use Rattle.ecd_names.specs.Breaks.{IsOfPrelude, OfPrelude, Breaks, BreaksNone, IsFirst, RuleBreaks, SiteBreaks, UseBreaks, NameBreaks, AtName, AtParameter, AtSite, Undefined, Recursive, OtherArity, OtherKind, Duplicate, OtherParameters, OtherAssign}
+use Rattle.ecd_names.specs.Breaks.{IsOfPrelude, OfPrelude, Breaks, BreaksNone, IsFirst, RuleBreaks, UseBreaks, NameBreaks, AtName, AtParameter, AtSite, Undefined, Recursive, OtherArity, OtherKind, Duplicate, OtherParameters, OtherAssign}
 use Rattle.ecd_names.specs.First.{Sees, AnyBelow}
 use Rattle.ecd_names.specs.Laws.{HasOneFirst, NoneIsFirst, RankedBreaksNoThird, PreludeIsKept}
 use Rattle.ecd_names.specs.Names.{BreaksAt, HasFewParameters}

@@ -1,12 +1,10 @@
 -- A rule that is judged, with what it is judged by.
-use Rattle.std.specs.Prelude.{ℕ, ◌+◌, ◌^◌, ◌≡◌, ◌<◌, List, Some, length, take, get_or, slice_get}
-use Rattle.std.specs.List.{Contains}
+use Rattle.std.specs.Prelude.{ℕ, ◌+◌, ◌^◌, ◌≡◌, ◌<◌, List, Some, length, get_or, slice_get}
 use Rattle.ecd_prelude.specs.Prelude.{prelude_rules}
 use Rattle.ecd_syntax.specs.declared.tree.Rule.{Rule}
 use Rattle.ecd_rules.specs.Named.{first_of}
 use Rattle.ecd_names.specs.Breaks.{NameBreaks}
 use Rattle.ecd_names.specs.Edges.{AreLevels}
-use Rattle.ecd_names.specs.First.{Faults}
 use Rattle.ecd_names.specs.Scopes.{IsScope}
 use Rattle.ecd_names.specs.declared.scene.Scene.{Scene}
 

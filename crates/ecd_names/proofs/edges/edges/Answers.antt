@@ -1,6 +1,4 @@
-use Rattle.std.proofs.Common.{◌≡◌, sym, ◌∙◌, ap, arith}
-use Rattle.std.specs.Prelude.{Some, slice_get}
-use Rattle.std.specs.Option.{option_copied}
+use Rattle.std.proofs.Common.{sym, arith}
 use Rattle.ecd_rules.specs.Named.{all_rules, first_of}
 use Rattle.ecd_names.specs.Edges.{rule_edges}
 use Rattle.ecd_names.proofs.Walking.{no_element, flat-more}

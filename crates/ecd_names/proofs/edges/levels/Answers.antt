@@ -1,8 +1,7 @@
-use Rattle.std.proofs.Common.{◌≡◌, ℕ, List, length, sym, subst, ap, ◌∙◌}
+use Rattle.std.proofs.Common.{ℕ, List, sym, subst, ◌∙◌}
 use Rattle.ecd_graph.specs.declared.edge.Edge.{Edge}
 use Rattle.ecd_graph.specs.Graphs.{AreAmong}
-use Rattle.ecd_rules.specs.Named.{all_rules}
-use Rattle.ecd_names.specs.Edges.{edges_of, AreLevels}
+use Rattle.ecd_names.specs.Edges.{edges_of}
 use Rattle.ecd_names.proofs.Leveling.{ends-among, are-levels}
 use Rattle.ecd_names.proofs.edges.levels.Goals as goal
 

@@ -1,5 +1,3 @@
-use Rattle.std.proofs.Common.{ℕ, ◌≡◌, List, subst, sym, ◌∙◌}
-use Rattle.ecd_names.specs.Edges.{AreLevels}
 use Rattle.ecd_names.proofs.Leveling.{levels-rank}
 use Rattle.ecd_names.proofs.Cycles.{never-back}
 use Rattle.ecd_names.proofs.Resolving.{none-broken, few-parameters}

@@ -1,4 +1,4 @@
-use Rattle.std.proofs.Common.{◌+◌, ◌-◌, ◌≡◌, ◌<◌, length, ap, sym, ◌∙◌, arith}
+use Rattle.std.proofs.Common.{◌+◌, ◌-◌, length, ap, arith}
 use Rattle.ecd_prelude.specs.Prelude.{prelude_rules}
 use Rattle.ecd_rules.specs.Named.{all_rules}
 use Rattle.ecd_names.specs.Names.{BreaksAt}

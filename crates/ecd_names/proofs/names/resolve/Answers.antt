@@ -1,5 +1,4 @@
-use Rattle.std.proofs.Common.{ℕ, ◌≡◌, List, inl, subst, sym}
-use Rattle.std.specs.Prelude.{Option}
+use Rattle.std.proofs.Common.{List, inl, subst, sym}
 use Rattle.ecd_syntax.specs.declared.tree.Rule.{Rule}
 use Rattle.ecd_names.specs.Breaks.{BreaksNone, IsFirst}
 use Rattle.ecd_names.proofs.Resolving.{none-broken, first-broken, only-broken, none-first}

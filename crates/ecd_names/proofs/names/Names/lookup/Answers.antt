@@ -1,4 +1,4 @@
-use Rattle.std.proofs.Common.{ℕ, ◌≡◌, true, List, length, subst, ap, ◌∙◌, ◌↔◌}
+use Rattle.std.proofs.Common.{ℕ, List, subst}
 use Rattle.ecd_syntax.specs.declared.tree.Rule.{Rule}
 use Rattle.ecd_names.specs.declared.info.NameInfo.{NameInfo}
 use Rattle.ecd_names.specs.Names.{IsInfo}
