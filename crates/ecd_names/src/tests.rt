@@ -51,6 +51,12 @@ fn the_first_broken_rule_is_named(rt: HostRuntime) -> Result<(), Fail> {
         ("a = {t: int}", 0, 0),
         ("a = [$x, $$y]", 0, 0),
         ("a = float", 0, 0),
+        ("a = ~b b = #6.1(tstr)", 0, 0),
+        ("a = &(x: 1, y: 2)", 0, 0),
+        ("a = 1..max max = 5", 0, 0),
+        ("a = bstr .cbor b b = int", 0, 0),
+        ("a = {b => c, ? d: int // #6.5(c)} b = tstr c = int", 0, 0),
+        ("a = b<int> b<t> = [t]", 0, 0),
         // No name leads back to itself.
         ("a = [* a]", 3, 7),
         ("a = {a => int}", 3, 5),
@@ -73,7 +79,16 @@ fn the_first_broken_rule_is_named(rt: HostRuntime) -> Result<(), Fail> {
         ("a = (int, tstr) / int", 5, 4),
         ("a = ((int, tstr)) / int", 5, 4),
         ("a = (b) / int b = (int, int)", 5, 4),
+        ("a = [g .size 1] g = (int, int)", 5, 5),
+        ("a = b<g> b<t> = [t] g = (int, int)", 5, 6),
+        ("a = {g => int} g = (int, int)", 5, 5),
+        ("a = {x: g} g = (int, int)", 5, 8),
+        ("a = #6.1(g) g = (int, int)", 5, 9),
+        ("a = ~g g = (int, int)", 5, 5),
+        ("$s /= g g = (int, int)", 5, 6),
         ("a = &b b = int", 5, 5),
+        ("c = &a a = b b = a", 5, 5),
+        ("c = a / int a = b b = a", 3, 16),
         ("a<t> = &t", 5, 8),
         ("a = &$$s", 0, 0),
         ("a = (int, int) a /= int", 5, 15),
@@ -130,9 +145,30 @@ fn names_are_told(rt: HostRuntime) -> Result<(), Fail> {
         ("b", 1, 67),
         ("int", 0, 0),
     ] {
+        assert!(rt; index < names.plugs(name), "{name}");
         if index < names.plugs(name) {
             assert_eq!(rt; names.body(name, index).name.at, place, "{name}");
         }
+    }
+    Ok(())
+}
+
+#[test]
+fn bodies_add_up_and_decide_the_kind(rt: HostRuntime) -> Result<(), Fail> {
+    for (text, name, group, bodies) in [
+        ("a = $s $s /= int $s /= tstr", "$s", false, 2),
+        ("a /= int a /= tstr", "a", false, 2),
+        ("a = (int)", "a", false, 1),
+        ("a = (int, int)", "a", true, 1),
+    ] {
+        let names = names_of(rt.alloc(), text)?;
+        let info = NameInfo {
+            group,
+            params: 0,
+            bodies,
+        };
+        assert_eq!(rt; names.lookup(name), Some(info), "{text}");
+        assert_eq!(rt; names.plugs("$t"), 0, "{text}");
     }
     Ok(())
 }

@@ -1,4 +1,4 @@
--- The places of a tree are those of the tokens that spell it.
+-- The places of a tree stand inside the text that its tokens come from.
 use Rattle.std.specs.Prelude.{ℕ, ◌<◌, List}
 use Rattle.std.specs.List.{AllByRecursion}
 use Rattle.ecd_lex.specs.declared.token.Token.{Token}

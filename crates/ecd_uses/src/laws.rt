@@ -3,7 +3,7 @@
 ghost use Rattle.ecd_uses.specs.Laws.{EntryLead, TypeLead, ChoiceLead, GroupLead, NamedLead, ParenthesisLead, OtherLeads, EntrySites, KeySites, TypeSites, ChoiceSites, ValueSites, NamedSites, ParenthesisSites, MapSites, ArraySites, UnwrapSites, EnumSites, EnumNameSites, TagSites, HashSites, GroupSites};
 ghost use Rattle.ecd_uses.specs.Places.{RulesStandInside};
 
-/// The names, parameters and sites of rules stand at places of the tokens that spell them.
+/// The names, parameters and sites of rules stand inside the text that their tokens come from.
 pub fn rules_stand_inside()
     ensures { RulesStandInside }
 {}
