@@ -213,48 +213,6 @@ fn schemas_are_taken_or_refused_with_rule_and_place(rt: HostRuntime) -> Result<(
         ),
         ("check s a 0", "", schema, "schema 1:1 byte 0 rule P1\n"),
         (
-            "check s a 0",
-            "a = int / uint / b",
-            schema,
-            "schema 1:18 byte 17 rule N2\n",
-        ),
-        (
-            "compile s a 0",
-            "a = 1\na = 2",
-            schema,
-            "schema 2:1 byte 6 rule N1\n",
-        ),
-        (
-            "check s a 0",
-            "a = 1 a = 2",
-            schema,
-            "schema 1:7 byte 6 rule N1\n",
-        ),
-        (
-            "check s a 0",
-            "a = b",
-            schema,
-            "schema 1:5 byte 4 rule N2\n",
-        ),
-        (
-            "check s a 0",
-            "a = [* a]",
-            schema,
-            "schema 1:8 byte 7 rule N3\n",
-        ),
-        (
-            "check s a 0",
-            "a = b<int, int> b<t> = [t]",
-            schema,
-            "schema 1:5 byte 4 rule N4\n",
-        ),
-        (
-            "check s a 0",
-            "a = g / int g = (int, int)",
-            schema,
-            "schema 1:5 byte 4 rule N5\n",
-        ),
-        (
             "compile s x 0",
             "x = 5\ny = [",
             schema,

@@ -94,7 +94,6 @@ mod tests {
     ) -> Result<(), Fail> {
         let lex = |place, rule| Some(Refusal::Lex { place, rule });
         let parse = |place, rule| Some(Refusal::Parse { place, rule });
-        let name = |place, rule| Some(Refusal::Name { place, rule });
         for (schema, root, refusal) in [
             ("x = 5", "x", None),
             ("x = 0x05 ; five", "x", None),
@@ -114,9 +113,6 @@ mod tests {
             ("", "x", parse(0, 1)),
             ("a = [int", "a", parse(8, 1)),
             ("x = 5\ny = [", "x", parse(11, 1)),
-            ("x = 5 y = z", "x", name(10, 2)),
-            ("x = 5 x = 5", "x", name(6, 1)),
-            ("a = int / uint / b", "a", name(17, 2)),
         ] {
             match compile(rt.alloc(), schema.as_bytes(), root, 0) {
                 Ok(compiled) => {
@@ -138,7 +134,6 @@ mod tests {
             (Refusal::NotUtf8 { place: 5 }, "rule T0 at byte 5"),
             (Refusal::Lex { place: 4, rule: 3 }, "rule X3 at byte 4"),
             (Refusal::Parse { place: 8, rule: 1 }, "rule P1 at byte 8"),
-            (Refusal::Name { place: 6, rule: 1 }, "rule N1 at byte 6"),
             (Refusal::NotBuilt, "not built"),
             (Refusal::OutOfMemory, "out of memory"),
         ] {
