@@ -12,6 +12,12 @@ pub use ecd_list::OutOfMemory;
 use std::alloc::Global;
 
 /// What `read_0` answers on the data: how many bytes it takes.
+///
+/// The data are shorter than 2^62 bytes. The answer is told of a program that reads one small number.
+///
+/// # Errors
+///
+/// `OutOfMemory` where a growth was refused, or where the run is stuck, as that of a compiled program never is.
 pub fn consumed(alloc: Global, program: &Valid, input: &[u8]) -> Result<u64, OutOfMemory>
     requires valid { IsValid program.now }
     requires interface { HasInterface program.now.items }
@@ -36,5 +42,28 @@ pub fn consumed(alloc: Global, program: &Valid, input: &[u8]) -> Result<u64, Out
     match machine.call(reader, &args, None) {
         Ok(taken) => Ok(taken),
         Err(_) => Err(OutOfMemory),
+    }
+}
+
+#[cfg(test)]
+mod tests {
+    use super::*;
+    use ecd_compile::compile;
+    use std::test::Fail;
+
+    #[test]
+    fn one_byte_is_taken_where_it_is_the_number(rt: HostRuntime) -> Result<(), Fail> {
+        let compiled = compile(rt.alloc(), b"x = 5", "x", 0).ok();
+        let compiled = compiled.ok_or("refused")?;
+        for (input, taken) in [
+            (b"".as_slice(), 0),
+            (b"\x05".as_slice(), 1),
+            (b"\x05\x06".as_slice(), 1),
+            (b"\x06\x05".as_slice(), 0),
+        ] {
+            let found = consumed(rt.alloc(), &compiled.program, input)?;
+            assert_eq!(rt; found, taken, "{input:?}");
+        }
+        Ok(())
     }
 }

@@ -1,0 +1,71 @@
+use super::*;
+use crate::tables::numbers;
+use std::test::Fail;
+
+fn case(schema: &'static str, depth: u8, bytes: &'static str, consumed: u64) -> Case {
+    Case {
+        schema,
+        root: "x",
+        depth,
+        bytes,
+        consumed,
+    }
+}
+
+#[test]
+fn a_number_is_taken_and_another_refused(rt: HostRuntime) -> Result<(), Fail> {
+    let cases = [case("x = 5", 0, "05", 1), case("x = 5", 0, "06", 0)];
+    let report = check_cases(rt.alloc(), cases.as_slice())?;
+    assert_eq!(rt;
+        report,
+        Report {
+            passed: 2,
+            first_failed: None
+        }
+    );
+    Ok(())
+}
+
+#[test]
+fn the_table_of_numbers_passes(rt: HostRuntime) -> Result<(), Fail> {
+    let report = check_cases(rt.alloc(), numbers().as_slice())?;
+    assert_eq!(rt;
+        report,
+        Report {
+            passed: 8,
+            first_failed: None
+        }
+    );
+    let report = check_cases(rt.alloc(), &[])?;
+    assert_eq!(rt;
+        report,
+        Report {
+            passed: 0,
+            first_failed: None
+        }
+    );
+    Ok(())
+}
+
+#[test]
+fn a_case_that_cannot_be_run_does_not_pass(rt: HostRuntime) -> Result<(), Fail> {
+    let cases = [
+        case("x = 5", 0, "05", 1),
+        case("x = 5", 33, "05", 1),
+        case("x = 5", 32, "05", 1),
+        case("x = 5", 0, "0", 0),
+        case("x = 5", 0, "0g", 0),
+        case("x = [", 0, "05", 0),
+        case("y = 5", 0, "05", 0),
+        case("x = 5", 0, "05", 0),
+    ];
+    let report = check_cases(rt.alloc(), cases.as_slice())?;
+    assert_eq!(rt;
+        report,
+        Report {
+            passed: 2,
+            first_failed: Some(1)
+        }
+    );
+    Ok(())
+}
