@@ -1,6 +1,6 @@
 -- The emitted reader of a number, called on data.
-use Rattle.std.proofs.Common.{◌≡◌, ℕ, zero, suc, ◌+◌, ◌<◌, ◌≤◌, ◌^◌, ◌⊎◌, ⊎_elim, inl, inr, Bool, true, false, List, [], ◌∷◌, ◌++◌, length, refl, ap, sym, ◌∙◌, subst, arith}
-use Rattle.std.specs.Prelude.{Option, Some, None, Result, Ok, Err, map, slice_get, codes, bytes_eq, nat_le, IsTrue}
+use Rattle.std.proofs.Common.{◌≡◌, ℕ, zero, suc, ◌<◌, ◌≤◌, ◌^◌, ◌⊎◌, ⊎_elim, inl, inr, true, false, List, [], ◌∷◌, ◌++◌, length, refl, ap, sym, ◌∙◌, subst, arith}
+use Rattle.std.specs.Prelude.{Some, None, Ok, map, slice_get, codes, bytes_eq, nat_le}
 use Rattle.std.proofs.lemmas.Slice.Eq.{bytes_eq-Decides}
 use Rattle.std.proofs.lemmas.Bool.{cases_lt}
 use Rattle.std.proofs.Math.Dec.{leb-zero}
@@ -15,8 +15,7 @@ use Rattle.ecd_cast.specs.Memory.{Name, Memory, Bytes, Cells, Event}
 use Rattle.ecd_cast.specs.Kept.{IsNew}
 use Rattle.ecd_cast.specs.Meaning.{Run, Returns, calls_of}
 use Rattle.ecd_cast.specs.Validity.{IsValid, structs_of, functions_of, function_names}
-use Rattle.ecd_cast.specs.Fitting.{BlockKind, Fixed, CellsOf, Fits, item_takes, params_take}
-use Rattle.ecd_ceval.specs.declared.machine.Halt.{Halt}
+use Rattle.ecd_cast.specs.Fitting.{BlockKind, Fixed, CellsOf, Fits}
 use Rattle.ecd_ceval.specs.declared.machine.Block.{Block as Given}
 use Rattle.ecd_ceval.specs.declared.machine.Block.TheVariants.{Cells as GivenCells}
 use Rattle.ecd_ceval.specs.Machines.{Seen, Answers, meaning, unset, kind_given, block_given}
@@ -24,7 +23,7 @@ use Rattle.ecd_cast.specs.declared.tree.StructDecl.{StructDecl}
 use Rattle.ecd_ceval.proofs.Naming.{numbers_mean_names}
 use Rattle.ecd_compile.specs.Reader.{unit_struct, reader_params}
 use Rattle.ecd_compile.specs.Reads.{HasInterface, ReadsByte, Gives, reading}
-use Rattle.ecd_reader.specs.Takes.{BeginsWith, Takes}
+use Rattle.ecd_reader.specs.Takes.{Takes}
 
 same_name : (x : Name) → bytes_eq x x ≡ true
 same_name x = (bytes_eq-Decides x x).1 refl

@@ -1,9 +1,17 @@
 //! Tables of cases.
 
+ghost use Rattle.std.specs.Prelude.{◌≤◌, length};
+ghost use Rattle.std.specs.List.{All};
+ghost use Rattle.ecd_vectors.specs.Passing.{IsWithin};
+
 use crate::case::Case;
 
 /// A case of depth 0.
-fn case(schema: &'static str, root: &'static str, bytes: &'static str, consumed: u64) -> Case {
+fn case(schema: &'static str, root: &'static str, bytes: &'static str, consumed: u64) -> Case
+    requires short { length schema.now ≤ 262144 }
+    requires few { length bytes.now ≤ 33554432 }
+    ensures { IsWithin result }
+{
     Case {
         schema,
         root,
@@ -13,8 +21,10 @@ fn case(schema: &'static str, root: &'static str, bytes: &'static str, consumed:
     }
 }
 
-/// Schemas of one small number.
-pub fn numbers() -> [Case; 8] {
+/// Schemas of one small number. All are within the limits of cases.
+pub fn numbers() -> [Case; 8]
+    ensures { All IsWithin result }
+{
     [
         case("x = 5", "x", "05", 1),
         case("x = 5", "x", "06", 0),

@@ -1,8 +1,8 @@
-use Rattle.std.proofs.Common.{◌≡◌, List, [], ◌∷◌, ℕ, refl, ap, sym, ◌∙◌, subst}
+use Rattle.std.proofs.Common.{refl, sym, subst}
 use Rattle.std.specs.Prelude.{Ok, None}
 use Rattle.ecd_ceval.specs.Machines.{Seen, Answers, meaning}
 use Rattle.ecd_cast.specs.Fitting.{Fits}
-use Rattle.ecd_reader.proofs.Consuming.{reader_there, reader_fits, reader_takes, two_blocks, machine_is, kinds_for, memory_for, values_for}
+use Rattle.ecd_reader.proofs.Consuming.{reader_there, reader_fits, reader_takes, two_blocks, machine_is, values_for}
 use Rattle.ecd_reader.proofs.consumed.Goals as goal
 
 pub unreachable-requires : goal.unreachable-requires

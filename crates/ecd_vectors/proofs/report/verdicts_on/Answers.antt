@@ -1,5 +1,3 @@
-use Rattle.std.proofs.Common.{sym, subst, List, Bool, [], ◌∷◌}
-use Rattle.ecd_vectors.specs.Passing.{AreVerdicts}
 use Rattle.ecd_vectors.proofs.Judging.{grown, whole}
 use Rattle.ecd_vectors.proofs.report.verdicts_on.Goals as goal
 use Rattle.std.proofs.lemmas.List.{get_or_default}
