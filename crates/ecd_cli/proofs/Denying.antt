@@ -3,12 +3,12 @@ use Rattle.std.proofs.Common.{◌≡◌, ℕ, ◌⊎◌, ⊎_elim, inl, inr, Lis
 use Rattle.std.specs.Prelude.{codes}
 use Rattle.ecd_compile.specs.declared.refusal.Refusal.{Refusal}
 use Rattle.ecd_compile.specs.Schema.{IsTold, HasCause}
-use Rattle.ecd_compile.proofs.Causes.{one_cause, never_refused, thin_once}
+use Rattle.ecd_compile.proofs.Causes.{one_cause, never_refused, one_number}
 use Rattle.ecd_cli.proofs.Calling.{not_run_once, not_run_or_run}
 use Rattle.ecd_cli.specs.Asked.{Asked, SchemaAsked, check, compile, read, write, copy, run, sample}
 use Rattle.ecd_cli.specs.Outcomes.{Outcome, NoEncoding, NotBuilt}
 use Rattle.ecd_reader.specs.Takes.{BeginsWith}
-use Rattle.ecd_cli.specs.Causes.{IsRefused, IsCompiledTo, IsAnyNumber, IsNumber, BeginWithItem, BeginWithNone, IsDenied, IsAccepted, IsTextOver, outcome_of_refusal}
+use Rattle.ecd_cli.specs.Causes.{IsRefused, IsCompiledTo, IsAnyNumber, BeginWithItem, BeginWithNone, IsDenied, IsAccepted, IsTextOver, outcome_of_refusal}
 
 refused_once : (schema root : List ℕ) (o p : Outcome) → IsRefused schema root o → IsRefused schema root p → o ≡ p
 refused_once schema root o p a b =
@@ -16,14 +16,10 @@ refused_once schema root o p a b =
     a.is ∙ ap (outcome_of_refusal schema) refusal ∙ sym b.is
 
 refused_or_number : (schema root : List ℕ) (o : Outcome) → IsRefused schema root o → IsAnyNumber schema root → ⊥
-refused_or_number schema root o a b = never_refused schema root b.1.tree b.0 a.refusal b.1.parsed b.1.sound b.1.thin a.names_cause a.cause
+refused_or_number schema root o a b = never_refused schema root b.0 a.refusal b.1 a.names_cause a.cause
 
 compiled_number : (schema root text : List ℕ) → IsCompiledTo schema root text → IsAnyNumber schema root
-compiled_number schema root text t = (t.compiled.number, record { tree = t.compiled.tree; parsed = t.compiled.parsed; sound = t.compiled.sound; thin = t.compiled.thin })
-
--- the root holds one number
-one_number : (schema root : List ℕ) (m n : ℕ) → IsNumber schema root m → IsNumber schema root n → m ≡ n
-one_number schema root m n a b = thin_once schema root a.tree b.tree m n a.parsed b.parsed a.thin b.thin
+compiled_number schema root text t = (t.compiled.number, t.compiled.is_number)
 
 none_or_item : (schema root input : List ℕ) → BeginWithNone schema root input → BeginWithItem schema root input → ⊥
 none_or_item schema root input a b =

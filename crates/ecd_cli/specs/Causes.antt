@@ -4,12 +4,9 @@ use Rattle.std.specs.Io.KnownBytes.{append_known}
 use Rattle.ecd_outside.specs.Causes.{IsFaultFree, Rose}
 use Rattle.ecd_outside.specs.Told.{Told, IsLonger, MayFail, AppendsFront}
 use Rattle.ecd_lex.specs.Places.{line_of as line_at, column_of as column_at}
-use Rattle.ecd_syntax.specs.declared.tree.Tree.{Tree}
 use Rattle.ecd_compile.specs.declared.refusal.Refusal.{Refusal}
 use Rattle.ecd_compile.specs.declared.refusal.Refusal.TheVariants as refusals
-use Rattle.ecd_compile.specs.Schema.{IsSchema, IsTold, HasCause}
-use Rattle.ecd_compile.specs.Thin.{IsThin}
-use Rattle.ecd_names.specs.Breaks.{BreaksNone}
+use Rattle.ecd_compile.specs.Schema.{IsNumber, IsTold, HasCause}
 use Rattle.ecd_compile.specs.Reads.{IsCompiled}
 use Rattle.ecd_cast.specs.declared.tree.Program.{Program}
 use Rattle.ecd_reader.specs.Takes.{BeginsWith}
@@ -47,13 +44,6 @@ pub record IsCompiledTo (schema root text : List ℕ) : Type 0 where
   pub compiled : IsCompiled schema root text program
 
 -- ---- data: the schemas that are taken so far are one small number
-
--- the schema breaks no rule, and its root holds this one number
-pub record IsNumber (schema root : List ℕ) (number : ℕ) : Type 0 where
-  pub tree : Tree
-  pub parsed : IsSchema schema tree
-  pub sound : BreaksNone tree.rules
-  pub thin : IsThin tree root number
 
 abbrev pub IsAnyNumber : List ℕ → List ℕ → Type 0
 IsAnyNumber schema root = (number : ℕ) × IsNumber schema root number

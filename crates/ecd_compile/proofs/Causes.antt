@@ -12,7 +12,7 @@ use Rattle.ecd_syntax.proofs.Verdicts.{one_spelled, one_unexpected, one_nested, 
 use Rattle.ecd_cast.specs.declared.tree.Program.{Program}
 use Rattle.ecd_compile.specs.declared.refusal.Refusal.{Refusal}
 use Rattle.ecd_compile.specs.declared.refusal.Refusal.TheVariants.{NotUtf8, Lex, Parse, Name, NotBuilt, OutOfMemory}
-use Rattle.ecd_compile.specs.Schema.{IsSchema, IsSyntaxFault, IsNoSchema, IsNoText, BreaksLexemes, BreaksNames, IsNotThin, HasCause, IsTold, HasOneCause}
+use Rattle.ecd_compile.specs.Schema.{IsSchema, IsNumber, IsSyntaxFault, IsNoSchema, IsNoText, BreaksLexemes, BreaksNames, IsNotThin, HasCause, IsTold, HasOneCause}
 use Rattle.ecd_compile.specs.Thin.{IsThin}
 use Rattle.ecd_names.specs.Breaks.{BreaksNone, IsFirst}
 use Rattle.ecd_names.proofs.Resolving.{one-first, none-first}
@@ -105,15 +105,15 @@ one_cause text root NotBuilt OutOfMemory x y a b = absurd y
 one_cause text root OutOfMemory s x y a b = absurd x
 
 pub never_refused : IsNeverRefused
-never_refused schema root tree number (NotUtf8 q) parsed sound thin x a = a.bad parsed.utf8
-never_refused schema root tree number (Lex q s) parsed sound thin x a = no_list_and_fault schema parsed.tokens q s parsed.lexemes a.first
-never_refused schema root tree number (Parse q s) parsed sound thin x a = no_schema_or_schema schema tree q s a parsed
-never_refused schema root tree number (Name q s) parsed sound thin x a = sound_or_names schema tree q s a parsed sound
-never_refused schema root tree number NotBuilt parsed sound thin x a = a.other number (subst (λ (t : Tree). IsThin t root number) (same_tree schema tree a.tree parsed a.schema) thin)
-never_refused schema root tree number OutOfMemory parsed sound thin x a = x
+never_refused schema root number (NotUtf8 q) is x a = a.bad is.parsed.utf8
+never_refused schema root number (Lex q s) is x a = no_list_and_fault schema is.parsed.tokens q s is.parsed.lexemes a.first
+never_refused schema root number (Parse q s) is x a = no_schema_or_schema schema is.tree q s a is.parsed
+never_refused schema root number (Name q s) is x a = sound_or_names schema is.tree q s a is.parsed is.sound
+never_refused schema root number NotBuilt is x a = a.other number (subst (λ (t : Tree). IsThin t root number) (same_tree schema is.tree a.tree is.parsed a.schema) is.thin)
+never_refused schema root number OutOfMemory is x a = x
 
 -- a schema stands for one number
-pub thin_once : (schema root : List ℕ) (t u : Tree) (m n : ℕ) → IsSchema schema t → IsSchema schema u → IsThin t root m → IsThin u root n → m ≡ n
-thin_once schema root t u m n a b x y =
-    let same : u ≡ t = same_tree schema u t b a in
-    one_thin t root m n x (subst (λ (v : Tree). IsThin v root n) same y)
+pub one_number : (schema root : List ℕ) (m n : ℕ) → IsNumber schema root m → IsNumber schema root n → m ≡ n
+one_number schema root m n a b =
+    let same : b.tree ≡ a.tree = same_tree schema b.tree a.tree b.parsed a.parsed in
+    one_thin a.tree root m n a.thin (subst (λ (v : Tree). IsThin v root n) same b.thin)

@@ -11,8 +11,7 @@ use Rattle.ecd_compile.specs.declared.refusal.Refusal.TheVariants.{NotUtf8, Lex,
 use Rattle.ecd_parse.specs.declared.fault.ParseFault.{ParseFault}
 use Rattle.ecd_parse.specs.declared.fault.ParseFault.TheVariants as parses
 use Rattle.ecd_compile.specs.Refusals.{of_grammar_is, of_names_is}
-use Rattle.ecd_compile.specs.Schema.{IsSchema, HasCause, IsTold, StandsWithin}
-use Rattle.ecd_compile.specs.Thin.{IsThin}
+use Rattle.ecd_compile.specs.Schema.{IsSchema, IsNumber, HasCause, IsTold, StandsWithin}
 use Rattle.ecd_syntax.specs.declared.tree.Name.{Name as AName}
 use Rattle.ecd_syntax.specs.declared.tree.Rule.{Rule}
 use Rattle.ecd_uses.specs.declared.site.Site.{Site}
@@ -22,7 +21,7 @@ use Rattle.ecd_uses.specs.Places.{site_place, IsRuleInside}
 use Rattle.ecd_names.specs.declared.fault.NameFault.{NameFault}
 use Rattle.ecd_names.specs.declared.fault.NameFault.TheVariants as names
 use Rattle.ecd_names.specs.Names.{HasCause as HasNameCause}
-use Rattle.ecd_names.specs.Breaks.{Breaks, BreaksNone, RuleBreaks, AtName, AtParameter, AtSite, SiteBreaks, IsFirst}
+use Rattle.ecd_names.specs.Breaks.{Breaks, RuleBreaks, AtName, AtParameter, AtSite, SiteBreaks, IsFirst}
 use Rattle.ecd_compile.proofs.Causes.{one_cause, never_refused}
 
 told_or_wants : (r : Refusal) → IsTold r ⊎ (r ≡ OutOfMemory)
@@ -40,11 +39,11 @@ only_refusal (Ok a) P schema root ok err none cause told has = none a cause ok t
 only_refusal (Err r) P schema root ok err none cause told has =
     ⊎_elim (λ (t : IsTold r). inl (one_cause schema root r cause t told err has)) (λ (e : r ≡ OutOfMemory). inr e) (told_or_wants r)
 
-pub only_compiled : {A : Type 0} (result : Result A Refusal) (schema root : List ℕ) (tree : Tree) (number : ℕ) → IfErr result (λ r. HasCause schema root r)
-    → IsSchema schema tree → BreaksNone tree.rules → IsThin tree root number → IfErr result (λ r. r ≡ OutOfMemory)
-only_compiled (Ok a) schema root tree number err parsed sound thin = tt
-only_compiled (Err r) schema root tree number err parsed sound thin =
-    ⊎_elim (λ (t : IsTold r). absurd (never_refused schema root tree number r parsed sound thin t err)) (λ (e : r ≡ OutOfMemory). e) (told_or_wants r)
+pub only_compiled : {A : Type 0} (result : Result A Refusal) (schema root : List ℕ) (number : ℕ) → IfErr result (λ r. HasCause schema root r)
+    → IsNumber schema root number → IfErr result (λ r. r ≡ OutOfMemory)
+only_compiled (Ok a) schema root number err is = tt
+only_compiled (Err r) schema root number err is =
+    ⊎_elim (λ (t : IsTold r). absurd (never_refused schema root number r is t err)) (λ (e : r ≡ OutOfMemory). e) (told_or_wants r)
 
 -- ---- places
 

@@ -9,11 +9,8 @@ use Rattle.ecd_cast.specs.Meaning.{Run, Returns, calls_of}
 use Rattle.ecd_cast.specs.Validity.{IsValid, structs_of, functions_of, function_names}
 use Rattle.ecd_compile.specs.Reader.{unit_struct, reader_params}
 use Rattle.ecd_cast.specs.Spelling.{Spells, IsSpelledProgram}
-use Rattle.ecd_syntax.specs.declared.tree.Tree.{Tree}
-use Rattle.ecd_compile.specs.Schema.{IsSchema, HasCause, IsTold}
+use Rattle.ecd_compile.specs.Schema.{IsNumber, HasCause, IsTold}
 use Rattle.ecd_compile.specs.declared.refusal.Refusal.{Refusal}
-use Rattle.ecd_compile.specs.Thin.{IsThin}
-use Rattle.ecd_names.specs.Breaks.{BreaksNone}
 
 -- the call returns n, writes exactly these, and never has more calls active than the depth
 pub record Gives (run : Run) (n : ℕ) (writes : List Event) (depth : ℕ) : Type 0 where
@@ -41,13 +38,10 @@ pub record HasInterface (items : List CItem) : Type 0 where
   pub names : function_names items ≡ codes "read_0" ∷ []
   pub params : map (λ f. f.params) (functions_of items) ≡ reader_params ∷ []
 
--- the schema has a tree that breaks no rule and is thin, with a number that the program reads, and the text spells the program, which has a spelling and is valid
+-- the schema stands for a number that the program reads, and the text spells the program, which has a spelling and is valid
 pub record IsCompiled (schema root text : List ℕ) (p : Program) : Type 0 where
-  pub tree : Tree
   pub number : ℕ
-  pub parsed : IsSchema schema tree
-  pub sound : BreaksNone tree.rules
-  pub thin : IsThin tree root number
+  pub is_number : IsNumber schema root number
   pub spelled : IsSpelledProgram p
   pub spells : Spells p text
   pub valid : IsValid p
@@ -56,4 +50,4 @@ pub record IsCompiled (schema root text : List ℕ) (p : Program) : Type 0 where
 
 -- a schema that can be compiled has no cause to be refused
 abbrev pub IsNeverRefused : Type 0
-IsNeverRefused = (schema root : List ℕ) (tree : Tree) (number : ℕ) (r : Refusal) → IsSchema schema tree → BreaksNone tree.rules → IsThin tree root number → IsTold r → HasCause schema root r → ⊥
+IsNeverRefused = (schema root : List ℕ) (number : ℕ) (r : Refusal) → IsNumber schema root number → IsTold r → HasCause schema root r → ⊥

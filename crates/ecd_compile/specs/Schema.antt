@@ -19,6 +19,13 @@ pub record IsSchema (text : List ℕ) (tree : Tree) : Type 0 where
   pub spells : Spells tree tokens
   pub within : IsWithin tokens
 
+-- the schema breaks no rule, and its root stands for this one number: the schemas that are compiled so far
+pub record IsNumber (schema root : List ℕ) (number : ℕ) : Type 0 where
+  pub tree : Tree
+  pub parsed : IsSchema schema tree
+  pub sound : BreaksNone tree.rules
+  pub thin : IsThin tree root number
+
 -- P1 stands at the first unexpected token, P2 at the bracket that is one too many
 abbrev pub IsSyntaxFault : List Token → (end place rule : ℕ) → Type 0
 IsSyntaxFault tokens end place rule = ((rule ≡ 1) × UnexpectedAt tokens end place) ⊎ ((rule ≡ 2) × TooNestedAt tokens place)

@@ -2,11 +2,8 @@
 #![tactic(auto)]
 
 ghost use Rattle.std.specs.Prelude.{ℕ, ◌≡◌, ◌≤◌, ◌⊎◌, IfOk, IfErr, MatchResult, length};
-ghost use Rattle.ecd_syntax.specs.declared.tree.Tree.{Tree};
 ghost use Rattle.ecd_compile.specs.Reads.{IsCompiled};
-ghost use Rattle.ecd_compile.specs.Schema.{IsSchema, HasCause, IsTold, StandsWithin};
-ghost use Rattle.ecd_compile.specs.Thin.{IsThin};
-ghost use Rattle.ecd_names.specs.Breaks.{BreaksNone};
+ghost use Rattle.ecd_compile.specs.Schema.{IsNumber, HasCause, IsTold, StandsWithin};
 ghost use Rattle.ecd_compile.specs.declared.refusal.Refusal.{Refusal};
 
 pub mod laws;
@@ -71,7 +68,7 @@ pub fn compile(alloc: Global, schema: &[u8], root: &str, depth: u8) -> Result<Co
 
     // A schema that is taken is compiled, and every schema that can be is.
     ensures compiled { IfOk result (λ c. IsCompiled schema.now root.now c.text c.program) }
-    ensures only_compiled { (tree : Tree) (number : ℕ) → IsSchema schema.now tree → BreaksNone tree.rules → IsThin tree root.now number → IfErr result (λ refusal. refusal ≡ Refusal.OutOfMemory) }
+    ensures only_compiled { (number : ℕ) → IsNumber schema.now root.now number → IfErr result (λ refusal. refusal ≡ Refusal.OutOfMemory) }
 
     // A refusal has its cause, and each cause is answered.
     ensures refused { IfErr result (λ refusal. HasCause schema.now root.now refusal) }

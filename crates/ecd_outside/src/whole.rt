@@ -59,7 +59,8 @@ fn read_more<F: Files>(
     }
 }
 
-/// The contents of the file of that name, where they have at most `limit` bytes. At most one byte more is taken.
+/// The contents of the file of that name, where they have at most `limit` bytes. Since the file was begun last, at most one byte
+/// more is taken.
 ///
 /// # Errors
 ///

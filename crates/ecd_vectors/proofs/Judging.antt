@@ -7,12 +7,9 @@ use Rattle.hex.proofs.HexLemmas.{decode_of-ok}
 use Rattle.ecd_cast.specs.declared.tree.Program.{Program}
 use Rattle.ecd_compile.specs.declared.refusal.Refusal.{Refusal}
 use Rattle.ecd_compile.specs.declared.refusal.Refusal.TheVariants.{OutOfMemory}
-use Rattle.ecd_syntax.specs.declared.tree.Tree.{Tree}
-use Rattle.ecd_compile.specs.Schema.{IsSchema}
-use Rattle.ecd_compile.specs.Thin.{IsThin}
-use Rattle.ecd_names.specs.Breaks.{BreaksNone}
+use Rattle.ecd_compile.specs.Schema.{IsNumber}
 use Rattle.ecd_compile.specs.Reads.{IsCompiled}
-use Rattle.ecd_compile.proofs.Causes.{thin_once}
+use Rattle.ecd_compile.proofs.Causes.{one_number}
 use Rattle.ecd_reader.specs.Takes.{BeginsWith, Takes}
 use Rattle.ecd_vectors.specs.declared.case.Case.{Case}
 use Rattle.ecd_vectors.specs.Passing.{IsWithin, Passes, AreVerdicts}
@@ -74,16 +71,13 @@ judged case bytes text program taken within digits compiled takes = (
     within = within;
     bytes = bytes;
     digits = digits;
-    tree = compiled.tree;
     number = compiled.number;
-    parsed = compiled.parsed;
-    sound = compiled.sound;
-    thin = compiled.thin;
+    is_number = compiled.is_number;
     takes = subst (λ (n : ℕ). Takes compiled.number bytes n) (bool_equal taken case.consumed e) takes;
   }),
   (λ (p : Passes case).
       let same : p.bytes ≡ bytes = cc (sym p.digits ∙ digits) in
-      let number : p.number ≡ compiled.number = thin_once case.schema.now case.root.now p.tree compiled.tree p.number compiled.number p.parsed compiled.parsed p.thin compiled.thin in
+      let number : p.number ≡ compiled.number = one_number case.schema.now case.root.now p.number compiled.number p.is_number compiled.is_number in
       let takes_bytes : Takes p.number bytes case.consumed = subst (λ (b : List ℕ). Takes p.number b case.consumed) same p.takes in
       let takes_too : Takes compiled.number bytes case.consumed = subst (λ (n : ℕ). Takes n bytes case.consumed) number takes_bytes in
       equal_bool taken case.consumed (takes_once compiled.number bytes taken case.consumed takes takes_too)),
@@ -92,5 +86,5 @@ judged case bytes text program taken within digits compiled takes = (
 pub no_bytes : (case : Case) → ((bytes : List ℕ) → decode_of case.bytes.now ≢ Ok bytes) → (false ≡ true) ↔ Passes case
 no_bytes case none = ((λ (e : false ≡ true). cc), (λ (p : Passes case). absurd (none p.bytes p.digits)))
 
-pub no_schema : (case : Case) → ((tree : Tree) (number : ℕ) → IsSchema case.schema.now tree → BreaksNone tree.rules → IsThin tree case.root.now number → ⊥) → (false ≡ true) ↔ Passes case
-no_schema case none = ((λ (e : false ≡ true). cc), (λ (p : Passes case). absurd (none p.tree p.number p.parsed p.sound p.thin)))
+pub no_schema : (case : Case) → ((number : ℕ) → IsNumber case.schema.now case.root.now number → ⊥) → (false ≡ true) ↔ Passes case
+no_schema case none = ((λ (e : false ≡ true). cc), (λ (p : Passes case). absurd (none p.number p.is_number)))

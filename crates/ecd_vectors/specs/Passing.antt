@@ -2,10 +2,7 @@
 use Rattle.std.specs.Prelude.{ℕ, ◌≡◌, ◌≤◌, ◌<◌, ◌↔◌, Bool, true, false, List, [], ◌∷◌, Option, Some, None, Ok, length, get_or}
 use Rattle.std.specs.List.{count_by}
 use Rattle.hex.specs.Hex.{decode_of}
-use Rattle.ecd_syntax.specs.declared.tree.Tree.{Tree}
-use Rattle.ecd_compile.specs.Schema.{IsSchema}
-use Rattle.ecd_compile.specs.Thin.{IsThin}
-use Rattle.ecd_names.specs.Breaks.{BreaksNone}
+use Rattle.ecd_compile.specs.Schema.{IsNumber}
 use Rattle.ecd_reader.specs.Takes.{Takes}
 use Rattle.ecd_vectors.specs.declared.case.Case.{Case}
 use Rattle.ecd_vectors.specs.declared.report.Report.{Report}
@@ -21,11 +18,8 @@ pub record Passes (case : Case) : Type 0 where
   pub within : IsWithin case
   pub bytes : List ℕ
   pub digits : decode_of case.bytes.now ≡ Ok bytes
-  pub tree : Tree
   pub number : ℕ
-  pub parsed : IsSchema case.schema.now tree
-  pub sound : BreaksNone tree.rules
-  pub thin : IsThin tree case.root.now number
+  pub is_number : IsNumber case.schema.now case.root.now number
   pub takes : Takes number bytes case.consumed
 
 -- a verdict for each case, true exactly where it passes

@@ -2,11 +2,8 @@
 use Rattle.std.specs.Prelude.{ℕ, ◌≡◌, ◌≢◌, List, Option, Some, None, Ok}
 use Rattle.std.specs.declared.vec.Vec.{Vec}
 use Rattle.hex.specs.Hex.{decode_of}
-use Rattle.ecd_syntax.specs.declared.tree.Tree.{Tree}
 use Rattle.ecd_compile.specs.declared.Compiled.{Compiled}
-use Rattle.ecd_compile.specs.Schema.{IsSchema}
-use Rattle.ecd_compile.specs.Thin.{IsThin}
-use Rattle.ecd_names.specs.Breaks.{BreaksNone}
+use Rattle.ecd_compile.specs.Schema.{IsNumber}
 use Rattle.ecd_compile.specs.Reads.{IsCompiled}
 use Rattle.ecd_vectors.specs.declared.case.Case.{Case}
 
@@ -17,5 +14,5 @@ IsDecoded digits (Some bytes) = decode_of digits ≡ Ok bytes.items
 
 -- the compiled schema, or none where it cannot be compiled
 abbrev pub IsOfCase : Case → Option Compiled → Type 0
-IsOfCase case None = (tree : Tree) (number : ℕ) → IsSchema case.schema.now tree → BreaksNone tree.rules → IsThin tree case.root.now number → ⊥
+IsOfCase case None = (number : ℕ) → IsNumber case.schema.now case.root.now number → ⊥
 IsOfCase case (Some compiled) = IsCompiled case.schema.now case.root.now compiled.text compiled.program

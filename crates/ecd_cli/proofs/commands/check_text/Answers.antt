@@ -23,5 +23,5 @@ returns-clause-text g c =
     record {
       contents = c.in_ok-schema.schema ∷ [];
       are_read = (c.in_ok-schema.ensures.is_read, tt);
-      is = ((compiled.number, record { tree = compiled.tree; parsed = compiled.parsed; sound = compiled.sound; thin = compiled.thin }), refl);
+      is = ((compiled.number, compiled.is_number), refl);
     }

@@ -27,7 +27,7 @@ returns-then-taken-eq0-clause-none g c =
     (λ (x : (c.in-Ok-consumed.taken ≡ 0) × (BeginsWith compiled.number c.in-Ok.input → ⊥)). x.1) takes in
     none_has_none (f.told c.args.files.now) s c.args.name.now c.in_ok-schema.schema c.in-Ok.input (f.faults c.args.files.now) (f.faults c.contents_of-2.new.files)
     (c.in_ok-schema.ensures.is_read, (rw c.contents_of.ensures.told at c.in-Ok.ensures.is_read, tt))
-    (compiled.number, record { tree = compiled.tree; parsed = compiled.parsed; sound = compiled.sound; thin = compiled.thin }, no)
+    (compiled.number, compiled.is_number, no)
 
 pub returns-clause-text : goal.returns-clause-text
 returns-clause-text g c =
@@ -41,5 +41,5 @@ returns-clause-text g c =
     record {
       contents = c.in_ok-schema.schema ∷ c.in-Ok.input ∷ [];
       are_read = (c.in_ok-schema.ensures.is_read, (rw c.contents_of.ensures.told at c.in-Ok.ensures.is_read, tt));
-      is = ((compiled.number, record { tree = compiled.tree; parsed = compiled.parsed; sound = compiled.sound; thin = compiled.thin }, begins), refl);
+      is = ((compiled.number, compiled.is_number, begins), refl);
     }

@@ -4,7 +4,7 @@ use Rattle.ecd_vectors.proofs.Judging.{not_compiled}
 use Rattle.ecd_vectors.proofs.case.compiled_of.Goals as goal
 
 pub returns-in-Err-2 : goal.returns-in-Err-2
-returns-in-Err-2 c = λ tree number parsed sound thin.
+returns-in-Err-2 c = λ number is.
     not_compiled c.compile.result c.in-Err.refusal c.in-Err.is
     (λ (e : c.in-Err.refusal ≡ OutOfMemory). let no : false ≡ true = c.if-wants_memory.ensures.1 e in cc)
-    (c.compile.ensures.only_compiled tree number (rw c.as_bytes.ensures.value parsed) sound thin)
+    (c.compile.ensures.only_compiled number (rw c.as_bytes.ensures.value is))
