@@ -1,12 +1,9 @@
 -- What is asked for over given contents is refused for one thing at most, and never where it is a text.
-use Rattle.std.proofs.Common.{◌≡◌, ℕ, ◌⊎◌, ⊎_elim, inl, inr, List, [], ◌∷◌, refl, ap, sym, ◌∙◌, subst}
-use Rattle.std.specs.Prelude.{codes}
-use Rattle.ecd_compile.specs.declared.refusal.Refusal.{Refusal}
-use Rattle.ecd_compile.specs.Schema.{IsTold, HasCause}
+use Rattle.std.proofs.Common.{◌≡◌, ℕ, ◌⊎◌, ⊎_elim, List, [], ◌∷◌, ap, sym, ◌∙◌, subst}
 use Rattle.ecd_compile.proofs.Causes.{one_cause, never_refused, one_number}
 use Rattle.ecd_cli.proofs.Calling.{not_run_once, not_run_or_run}
-use Rattle.ecd_cli.specs.Asked.{Asked, SchemaAsked, check, compile, read, write, copy, run, sample}
-use Rattle.ecd_cli.specs.Outcomes.{Outcome, NoEncoding, NotBuilt}
+use Rattle.ecd_cli.specs.Asked.{Asked, check, compile, read, write, copy, run, sample}
+use Rattle.ecd_cli.specs.Outcomes.{Outcome, NoEncoding}
 use Rattle.ecd_reader.specs.Takes.{BeginsWith}
 use Rattle.ecd_cli.specs.Causes.{IsRefused, IsCompiledTo, IsAnyNumber, BeginWithItem, BeginWithNone, IsDenied, IsAccepted, IsTextOver, outcome_of_refusal}
 

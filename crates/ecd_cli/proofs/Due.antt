@@ -1,12 +1,12 @@
 -- Words and told contents ask for one thing.
-use Rattle.std.proofs.Common.{◌≡◌, ℕ, ◌<◌, ◌≤◌, ◌⊎◌, ⊎_elim, inl, inr, List, [], ◌∷◌, arith, refl, ap, sym, ◌∙◌, subst}
-use Rattle.std.specs.Prelude.{Option, Some, None, IsSome}
+use Rattle.std.proofs.Common.{◌≡◌, ℕ, ◌⊎◌, ⊎_elim, inl, inr, List, arith, refl, ap, sym, ◌∙◌, subst}
+use Rattle.std.specs.Prelude.{Some, None, IsSome}
 use Rattle.ecd_outside.specs.Told.{Told}
 use Rattle.ecd_outside.specs.Causes.{IsFaultFree, Rose}
 use Rattle.ecd_cli.specs.Asked.{Asked}
 use Rattle.ecd_cli.specs.Outcomes.{Outcome, status_of, Done, NoEncoding, Broken, Usage, ReadFault, WriteFault, TooLarge, OutOfMemory, NoSpelling, BreaksC, Stuck, Spent, NoFunction, NotBuilt}
 use Rattle.ecd_cli.specs.Files.{files_of, IsOneMissing}
-use Rattle.ecd_cli.specs.Causes.{IsDenied, IsAccepted, IsTextOver, IsTooLargeFor, IsDeniedFor, IsAcceptedFor, IsDue, IsText, IsDecided, MayFailToRead}
+use Rattle.ecd_cli.specs.Causes.{IsDenied, IsTooLargeFor, IsDeniedFor, IsAcceptedFor, IsDue, IsText, IsDecided, MayFailToRead}
 use Rattle.ecd_cli.specs.Ends.{OneIsDue}
 use Rattle.ecd_cli.specs.declared.status.Status.{Status}
 use Rattle.ecd_cli.specs.declared.status.Status.TheVariants as statuses

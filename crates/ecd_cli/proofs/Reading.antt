@@ -1,6 +1,6 @@
 -- Told files have one content, and are read, too large or missing.
-use Rattle.std.proofs.Common.{◌≡◌, ℕ, ◌<◌, ◌≤◌, ◌+◌, ◌⊎◌, ⊎_elim, inl, inr, List, [], ◌∷◌, length, arith, refl, ap, sym, ◌∙◌}
-use Rattle.std.specs.Prelude.{Option, Some, None}
+use Rattle.std.proofs.Common.{◌≡◌, ℕ, ⊎_elim, List, [], ◌∷◌, length, arith, refl, ap, sym, ◌∙◌}
+use Rattle.std.specs.Prelude.{Option, Some}
 use Rattle.ecd_outside.specs.Told.{IsLonger, IsMissing}
 use Rattle.ecd_cli.specs.Files.{Wanted, IsRead, AreRead, IsTooLarge, IsOneMissing}
 

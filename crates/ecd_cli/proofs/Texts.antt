@@ -1,18 +1,18 @@
 -- Why a command has no text.
-use Rattle.std.proofs.Common.{◌≡◌, ℕ, ◌<◌, ◌≤◌, ◌⊎◌, ⊎_elim, inl, inr, List, [], ◌∷◌, arith, refl, ap, sym, ◌∙◌, subst}
-use Rattle.std.specs.Prelude.{Option, Some, None, Result, Ok, Err, IfOk}
+use Rattle.std.proofs.Common.{◌≡◌, ℕ, ◌≤◌, ◌⊎◌, ⊎_elim, inl, inr, List, [], ◌∷◌, arith, refl, sym, ◌∙◌, subst}
+use Rattle.std.specs.Prelude.{Result, Ok, Err, IfOk}
 use Rattle.ecd_outside.specs.Told.{Told, IsLonger, IsMissing, MayFail}
 use Rattle.ecd_outside.specs.Causes.{Rose}
 use Rattle.ecd_compile.specs.declared.refusal.Refusal.{Refusal}
 use Rattle.ecd_compile.specs.declared.refusal.Refusal.TheVariants as refusals
 use Rattle.ecd_compile.specs.Schema.{IsTold}
 use Rattle.ecd_cast.specs.declared.tree.Program.{Program}
-use Rattle.ecd_cli.specs.Asked.{Asked, SchemaAsked, check, compile, read, run}
+use Rattle.ecd_cli.specs.Asked.{Asked, SchemaAsked, read, run}
 use Rattle.ecd_cast.specs.Validity.{IsValid}
 use Rattle.ecd_cgrammar.specs.Faults.{IsSpelling}
 use Rattle.ecd_cli.specs.Calls.{IsHalted, IsNotRun, HasNoProgram, BreaksRule}
-use Rattle.ecd_cli.specs.Outcomes.{Outcome, Done, NoEncoding, Broken, Usage, ReadFault, WriteFault, TooLarge, OutOfMemory, NotBuilt}
-use Rattle.ecd_cli.specs.Files.{Wanted, files_of, schema_wanted, IsRead, AreRead, IsTooLarge, IsOneMissing}
+use Rattle.ecd_cli.specs.Outcomes.{Outcome, Done, NoEncoding, Usage, ReadFault, WriteFault, TooLarge, OutOfMemory, NotBuilt}
+use Rattle.ecd_cli.specs.Files.{Wanted, files_of, IsRead, AreRead, IsTooLarge, IsOneMissing}
 use Rattle.ecd_cli.specs.Causes.{IsRefused, IsRefusedOrWants, IsUnread, BeginWithNone, IsDenied, IsDue, IsDecided, MayFailToRead, HasNoText, outcome_of_refusal}
 
 -- a refusal that is due is no end of another kind

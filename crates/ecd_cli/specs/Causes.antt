@@ -13,7 +13,7 @@ use Rattle.ecd_reader.specs.Takes.{BeginsWith}
 use Rattle.ecd_cli.specs.Asked.{Asked, check, compile, read, write, copy, run, sample}
 use Rattle.ecd_cli.specs.Calls.{IsNotRun, IsRun, IsRunText}
 use Rattle.ecd_cli.specs.Files.{Wanted, files_of, AreRead, IsTooLarge, IsOneMissing}
-use Rattle.ecd_cli.specs.Outcomes.{Outcome, RuleName, Done, NoEncoding, Broken, Usage, ReadFault, WriteFault, TooLarge, OutOfMemory, NoSpelling, BreaksC, Stuck, Spent, NoFunction, NotBuilt}
+use Rattle.ecd_cli.specs.Outcomes.{Outcome, Done, NoEncoding, Broken, Usage, ReadFault, WriteFault, TooLarge, OutOfMemory, NoSpelling, BreaksC, Stuck, Spent, NoFunction, NotBuilt}
 use Rattle.ecd_cli.specs.declared.status.Status.{Status}
 use Rattle.ecd_cli.specs.declared.status.Status.TheVariants as statuses
 

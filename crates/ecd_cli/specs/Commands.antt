@@ -1,5 +1,4 @@
 -- What the words of a command ask for.
-use Rattle.std.specs.Prelude.{ℕ, List}
 use Rattle.ecd_cli.specs.Asked.{Asked, SchemaAsked, check, compile, read, write, copy, run, sample}
 use Rattle.ecd_cli.specs.declared.words.SchemaWords.{SchemaWords}
 use Rattle.ecd_cli.specs.declared.words.Command.{Command}

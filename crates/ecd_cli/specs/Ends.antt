@@ -1,5 +1,5 @@
 -- How a call ended, and that words and contents decide it.
-use Rattle.std.specs.Prelude.{◌≡◌, ◌⊎◌, ℕ, List, Option, Some}
+use Rattle.std.specs.Prelude.{◌≡◌, ℕ, List, Option, Some}
 use Rattle.ecd_cli.specs.Asked.{Asked, ForAsked}
 use Rattle.ecd_cli.specs.Outcomes.{Outcome, status_of, line_of}
 use Rattle.ecd_cli.specs.Causes.{IsDecided, IsDue, IsAcceptedFor, TellsLine}

@@ -1,5 +1,5 @@
 -- How a call can end, with the status and the line on standard error that go with it.
-use Rattle.std.specs.Prelude.{ℕ, List, [], ◌∷◌, ◌++◌, codes, decimal}
+use Rattle.std.specs.Prelude.{ℕ, List, [], ◌++◌, codes, decimal}
 use Rattle.ecd_cli.specs.declared.status.Status.{Status}
 use Rattle.ecd_cli.specs.declared.status.Status.TheVariants as statuses
 

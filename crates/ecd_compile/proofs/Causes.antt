@@ -1,18 +1,15 @@
 -- Each cause of a refusal rules out the others.
-use Rattle.std.proofs.Common.{◌≡◌, ℕ, ◌+◌, ◌<◌, ◌≤◌, ◌⊎◌, ⊎_elim, List, length, take, refl, ap, sym, ◌∙◌, subst, arith}
+use Rattle.std.proofs.Common.{◌≡◌, ℕ, ◌<◌, ◌≤◌, ⊎_elim, List, length, refl, ap, sym, ◌∙◌, subst, arith}
 use Rattle.std.proofs.lemmas.Bool.{cases_lt}
-use Rattle.std.specs.Str.{IsUtf8, IsValidUpTo}
+use Rattle.std.specs.Str.{IsValidUpTo}
 use Rattle.ecd_lex.specs.declared.token.Token.{Token}
-use Rattle.ecd_lex.specs.Lexemes.{Lexemes}
 use Rattle.ecd_lex.proofs.Determined.{one_list, no_list_and_fault, one_fault}
 use Rattle.ecd_syntax.specs.declared.tree.Tree.{Tree}
 use Rattle.ecd_syntax.specs.Grammar.{Spells}
 use Rattle.ecd_syntax.specs.Faults.{IsWithin, UnexpectedAt, TooNestedAt}
 use Rattle.ecd_syntax.proofs.Verdicts.{one_spelled, one_unexpected, one_nested, nested_not_within, nested_not_unexpected, unexpected_no_schema}
-use Rattle.ecd_cast.specs.declared.tree.Program.{Program}
-use Rattle.ecd_compile.specs.declared.refusal.Refusal.{Refusal}
 use Rattle.ecd_compile.specs.declared.refusal.Refusal.TheVariants.{NotUtf8, Lex, Parse, Name, NotBuilt, OutOfMemory}
-use Rattle.ecd_compile.specs.Schema.{IsSchema, IsNumber, IsSyntaxFault, IsNoSchema, IsNoText, BreaksLexemes, BreaksNames, IsNotThin, HasCause, IsTold, HasOneCause}
+use Rattle.ecd_compile.specs.Schema.{IsSchema, IsNumber, IsSyntaxFault, IsNoSchema, BreaksLexemes, BreaksNames, HasOneCause}
 use Rattle.ecd_compile.specs.Thin.{IsThin}
 use Rattle.ecd_names.specs.Breaks.{BreaksNone, IsFirst}
 use Rattle.ecd_names.proofs.Resolving.{one-first, none-first}

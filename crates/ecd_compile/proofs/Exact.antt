@@ -1,6 +1,6 @@
 -- An answer with a cause is the only one, and its place is one of the schema.
-use Rattle.std.proofs.Common.{◌≡◌, ℕ, ◌+◌, ◌<◌, ◌≤◌, ◌⊎◌, ⊎_elim, inl, inr, List, [], ◌∷◌, ◌++◌, length, refl, subst, arith}
-use Rattle.std.specs.Prelude.{Option, Some, zero, suc, take, get_or, slice_get, Result, Ok, Err, IfOk, IfErr, MatchResult}
+use Rattle.std.proofs.Common.{◌≡◌, ℕ, ◌<◌, ◌≤◌, ◌⊎◌, ⊎_elim, inl, inr, List, [], ◌∷◌, ◌++◌, length, refl, subst, arith}
+use Rattle.std.specs.Prelude.{Some, zero, suc, take, get_or, slice_get, Result, Ok, Err, IfOk, IfErr, MatchResult}
 use Rattle.std.specs.List.{AllByRecursion, Contains}
 use Rattle.ecd_lex.specs.declared.token.Token.{Token}
 use Rattle.ecd_lex.specs.Lexemes.{IsInside}
@@ -21,7 +21,7 @@ use Rattle.ecd_uses.specs.Places.{site_place, IsRuleInside}
 use Rattle.ecd_names.specs.declared.fault.NameFault.{NameFault}
 use Rattle.ecd_names.specs.declared.fault.NameFault.TheVariants as names
 use Rattle.ecd_names.specs.Names.{HasCause as HasNameCause}
-use Rattle.ecd_names.specs.Breaks.{Breaks, RuleBreaks, AtName, AtParameter, AtSite, SiteBreaks, IsFirst}
+use Rattle.ecd_names.specs.Breaks.{Breaks, RuleBreaks, AtName, AtParameter, AtSite, SiteBreaks}
 use Rattle.ecd_compile.proofs.Causes.{one_cause, never_refused}
 
 told_or_wants : (r : Refusal) → IsTold r ⊎ (r ≡ OutOfMemory)

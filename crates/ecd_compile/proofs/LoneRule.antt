@@ -1,8 +1,7 @@
 -- A tree of one rule.
-use Rattle.std.proofs.Common.{◌≡◌, ℕ, ◌<◌, ◌≤◌, List, [], ◌∷◌, length, get_or, refl, ap, sym, ◌∙◌, subst, arith}
+use Rattle.std.proofs.Common.{◌≡◌, ℕ, ◌<◌, ◌≤◌, List, [], ◌∷◌, length, get_or, ap, sym, ◌∙◌, subst, arith}
 use Rattle.std.specs.Prelude.{Option, Some, None, pos}
-use Rattle.ecd_syntax.specs.declared.tree.Entry.{Entry, out-Entry}
-use Rattle.ecd_syntax.specs.declared.tree.Alts.{out-Alts}
+use Rattle.ecd_syntax.specs.declared.tree.Entry.{Entry}
 use Rattle.ecd_syntax.specs.declared.tree.Type1.{Type1, out-Type1}
 use Rattle.ecd_syntax.specs.declared.tree.Type2.{out-Type2}
 use Rattle.ecd_syntax.specs.declared.tree.Form.{out-Form}

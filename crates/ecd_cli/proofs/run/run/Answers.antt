@@ -1,5 +1,5 @@
-use Rattle.std.proofs.Common.{◌≡◌, refl, sym, ◌∙◌, arith}
-use Rattle.ecd_cli.specs.Outcomes.{Outcome, status_of, Usage, Done, OutOfMemory}
+use Rattle.std.proofs.Common.{refl, sym, ◌∙◌}
+use Rattle.ecd_cli.specs.Outcomes.{Done, OutOfMemory}
 use Rattle.ecd_cli.specs.Answers.{outcome_of}
 use Rattle.ecd_cli.proofs.Due.{due_is_left, text_is_left, status_left, is_done, is_write_fault}
 use Rattle.ecd_cli.proofs.run.run.Goals as goal

@@ -1,5 +1,5 @@
 use Rattle.std.proofs.Common.{◌≡◌, ap, sym, ◌∙◌}
-use Rattle.std.specs.Prelude.{decimal, map, string_bytes, List, [], ◌∷◌, ℕ}
+use Rattle.std.specs.Prelude.{decimal, string_bytes}
 use Rattle.ecd_cli.specs.Asked.{bytes_of}
 use Rattle.ecd_cli.proofs.Tables.{is_read, four}
 use Rattle.ecd_cli.proofs.words.read_words.Goals as goal

@@ -1,5 +1,5 @@
 use Rattle.std.proofs.Common.{◌≡◌, ap, sym, ◌∙◌, arith}
-use Rattle.std.specs.Prelude.{decimal, map, string_bytes, List, [], ◌∷◌, ℕ}
+use Rattle.std.specs.Prelude.{decimal, string_bytes}
 use Rattle.ecd_cli.specs.Asked.{bytes_of}
 use Rattle.ecd_cli.proofs.Tables.{is_write, five}
 use Rattle.ecd_cli.proofs.words.write_words.Goals as goal
