@@ -231,6 +231,25 @@ fn schemas_are_taken_or_refused_with_rule_and_place(rt: HostRuntime) -> Result<(
 }
 
 #[test]
+fn broken_rules_of_names_are_told_with_rule_and_place(rt: HostRuntime) -> Result<(), Fail> {
+    for (contents, line) in [
+        ("a = 1 a = 2", "schema 1:7 byte 6 rule N1\n"),
+        ("a = 1\na = 2", "schema 2:1 byte 6 rule N1\n"),
+        ("a = b", "schema 1:5 byte 4 rule N2\n"),
+        ("a = int / uint / b", "schema 1:18 byte 17 rule N2\n"),
+        ("a = [* a]", "schema 1:8 byte 7 rule N3\n"),
+        ("a = b<int, int> b<t> = [t]", "schema 1:5 byte 4 rule N4\n"),
+        ("a = g / int g = (int, int)", "schema 1:5 byte 4 rule N5\n"),
+    ] {
+        for words in ["check s a 0", "compile s a 0"] {
+            let told = is_answered(rt.alloc(), words, contents, Status::Schema, line)?;
+            assert!(rt; told, "{words} {contents:?}");
+        }
+    }
+    Ok(())
+}
+
+#[test]
 fn the_49th_open_bracket_is_named(rt: HostRuntime) -> Result<(), Fail> {
     let mut schema = String::from_str(rt.alloc(), "a = ")?;
     for _ in 0..49 {

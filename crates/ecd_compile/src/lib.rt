@@ -126,11 +126,30 @@ mod tests {
     }
 
     #[test]
+    fn broken_rules_of_names_are_refused(rt: HostRuntime) -> Result<(), Fail> {
+        for (schema, place, rule) in [
+            ("x = 5 x = 5", 6, 1),
+            ("x = 5 y = z", 10, 2),
+            ("a = int / uint / b", 17, 2),
+            ("a = [* a]", 7, 3),
+            ("a = b<int, int> b<t> = [t]", 4, 4),
+            ("a = g / int g = (int, int)", 4, 5),
+        ] {
+            match compile(rt.alloc(), schema.as_bytes(), "a", 0) {
+                Ok(_) => return Err("is compiled".into()),
+                Err(found) => assert_eq!(rt; found, Refusal::Name { place, rule }, "{schema:?}"),
+            }
+        }
+        Ok(())
+    }
+
+    #[test]
     fn refusals_are_told_in_words(rt: HostRuntime) -> Result<(), Fail> {
         for (refusal, words) in [
             (Refusal::NotUtf8 { place: 5 }, "rule T0 at byte 5"),
             (Refusal::Lex { place: 4, rule: 3 }, "rule X3 at byte 4"),
             (Refusal::Parse { place: 8, rule: 1 }, "rule P1 at byte 8"),
+            (Refusal::Name { place: 6, rule: 1 }, "rule N1 at byte 6"),
             (Refusal::NotBuilt, "not built"),
             (Refusal::OutOfMemory, "out of memory"),
         ] {

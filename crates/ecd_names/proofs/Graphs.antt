@@ -12,7 +12,8 @@ use Rattle.ecd_uses.specs.declared.site.Site.TheVariants.{Use, Parenthesis}
 use Rattle.ecd_uses.specs.Sites.{sites_of}
 use Rattle.ecd_rules.specs.Named.{is_parameter}
 use Rattle.ecd_rules.specs.Leading.{IsUse, Uses, LeadsWithin, LeadsTo}
-use Rattle.ecd_names.specs.Edges.{edge_between, site_edges, rule_edges}
+use Rattle.ecd_rules.specs.Edges.{edge_between}
+use Rattle.ecd_names.specs.Edges.{site_edges, rule_edges}
 use Rattle.ecd_names.proofs.Walking.{some_same, none_in, only_in, in_only, flat_in, in_flat}
 use Rattle.ecd_names.proofs.Linking.{free-edges, parameter-edges}
 

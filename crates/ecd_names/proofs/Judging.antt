@@ -14,7 +14,8 @@ use Rattle.ecd_uses.specs.declared.site.Site.{Site}
 use Rattle.ecd_uses.specs.declared.site.Site.TheVariants.{Use}
 use Rattle.ecd_uses.specs.Sites.{sites_of}
 use Rattle.ecd_rules.specs.Named.{arity_of, is_parameter}
-use Rattle.ecd_rules.specs.Kinds.{IsGroupSocket, IsGroup}
+use Rattle.ecd_rules.specs.Kinds.{IsGroup}
+use Rattle.ecd_rules.specs.Sockets.{is_group_socket}
 use Rattle.ecd_rules.specs.Leading.{Uses}
 use Rattle.ecd_names.specs.declared.first.Broken.{Broken}
 use Rattle.ecd_names.specs.Breaks.{IsDuplicate, IsUndefined, IsRecursive, arity_in, IsOtherKind, IsOtherAssign, UseBreaks, NameBreaks, RuleBreaks, SiteBreaks}
@@ -98,7 +99,7 @@ module _ (text before : List Rule) (rule : Rule) (a b c d : Option Broken) (dupl
 
 -- `/=` on a group
 module _ (text : List Rule) (rule : Rule) (assign : rule.assign ≡ TypeMore) where
-  socket_group : IsGroupSocket rule.name.text → IsGroup text rule.name.text
+  socket_group : is_group_socket rule.name.text ≡ true → IsGroup text rule.name.text
   socket_group s = record { steps = 1; shown = inl s }
 
   pub type_more-other : (is_group : Bool) → ((is_group ≡ true → IsGroup text rule.name.text) × (IsGroup text rule.name.text → is_group ≡ true)) → (is_group ≡ true → IsOtherAssign text rule) × (IsOtherAssign text rule → is_group ≡ true)

@@ -7,7 +7,7 @@ mod Scoping
 mod Linking
 mod Nodes
 mod Graphs
-mod Leveling
+mod Components
 mod Duplicates
 mod Judging
 mod Preludes

@@ -8,7 +8,8 @@ use Rattle.ecd_uses.specs.declared.site.Asked.{Asked}
 use Rattle.ecd_uses.specs.declared.site.Site.{Site}
 use Rattle.ecd_uses.specs.declared.site.Site.TheVariants.{Use}
 use Rattle.ecd_rules.specs.Named.{is_parameter}
-use Rattle.ecd_names.specs.Edges.{edge_between, site_edges}
+use Rattle.ecd_rules.specs.Edges.{edge_between}
+use Rattle.ecd_names.specs.Edges.{site_edges}
 
 module _ (node : List ℕ → Option ℕ) (rule : Rule) (name : Name) (args : ℕ) (asked : Asked) where
   choose : {A : Type 0} (b c : Bool) (x y : A) → b ≡ c → (if b then x else y) ≡ (if c then x else y)

@@ -1,6 +1,7 @@
 -- The rules of names, N1 to N5 (RFC 8610, sections 2.1, 2.2, 3.1, 3.9 and 3.10), over the rules of a text. Every rule of the text is judged, used or not.
 use Rattle.std.specs.Prelude.{ℕ, ◌≡◌, ◌≢◌, ◌<◌, ◌≤◌, ◌⊎◌, true, false, if◌then◌else◌, List, [], Some, length, take, slice_get}
 use Rattle.std.specs.List.{Contains}
+use Rattle.ecd_prelude.specs.Laws.{is_socket}
 use Rattle.ecd_syntax.specs.declared.tree.Assign.TheVariants.{Define, TypeMore, GroupMore}
 use Rattle.ecd_syntax.specs.declared.tree.Name.{Name}
 use Rattle.ecd_syntax.specs.declared.tree.Rule.{Rule}
@@ -10,7 +11,8 @@ use Rattle.ecd_uses.specs.declared.site.Site.{Site}
 use Rattle.ecd_uses.specs.declared.site.Site.TheVariants.{Use, Parenthesis}
 use Rattle.ecd_uses.specs.Sites.{sites_of}
 use Rattle.ecd_rules.specs.Named.{arity_of, IsDefined, is_in_text, is_parameter}
-use Rattle.ecd_rules.specs.Kinds.{IsSocket, IsGroupSocket, LeadsToGroup, IsGroup, IsGroupEntry}
+use Rattle.ecd_rules.specs.Kinds.{LeadsToGroup, IsGroup, IsGroupEntry}
+use Rattle.ecd_rules.specs.Sockets.{is_group_socket}
 use Rattle.ecd_rules.specs.Leading.{LeadsTo}
 
 -- ---- N1, a name is defined twice
@@ -35,7 +37,7 @@ pub record IsRepeated (params : List Name) (index : ℕ) (param : Name) : Type 0
 pub record IsUndefined (text : List Rule) (rule : Rule) (name : List ℕ) : Type 0 where
   pub free : is_parameter rule.params name ≡ false
   pub no_rule : IsDefined text name → ⊥
-  pub no_socket : IsSocket name → ⊥
+  pub no_socket : is_socket name ≡ false
 
 -- ---- N3, names are recursive
 
@@ -63,15 +65,15 @@ pub data IsOtherKind (text : List Rule) (rule : Rule) (name : List ℕ) (asked :
 
 -- a name that begins with one `$` alone
 pub record IsTypeSocket (name : List ℕ) : Type 0 where
-  pub socket : IsSocket name
-  pub single : IsGroupSocket name → ⊥
+  pub socket : is_socket name ≡ true
+  pub single : is_group_socket name ≡ false
 
 -- an assignment that does not suit the kind of its name
 pub data IsOtherAssign (text : List Rule) (rule : Rule) : Type 0 where
   TypeForGroupName : rule.assign ≡ TypeMore → IsGroup text rule.name.text → IsOtherAssign text rule
   GroupForTypeSocket : rule.assign ≡ GroupMore → IsTypeSocket rule.name.text → IsOtherAssign text rule
   GroupAsTypeSocket : rule.assign ≡ Define → IsGroupEntry text rule.params rule.body → IsTypeSocket rule.name.text → IsOtherAssign text rule
-  TypeForGroupSocket : rule.assign ≡ TypeMore → IsGroupSocket rule.name.text → IsOtherAssign text rule
+  TypeForGroupSocket : rule.assign ≡ TypeMore → is_group_socket rule.name.text ≡ true → IsOtherAssign text rule
 
 -- ---- the rules by their numbers
 

@@ -1,18 +1,13 @@
 -- The graph of names: a node for each name that has a rule, by the number of its first rule, and an edge for each use.
-use Rattle.std.specs.Prelude.{ℕ, ◌≡◌, if◌then◌else◌, List, [], ◌∷◌, flat_map, length, Option, Some, None}
+use Rattle.std.specs.Prelude.{ℕ, ◌≡◌, if◌then◌else◌, List, [], flat_map, length, Option}
 use Rattle.ecd_graph.specs.declared.edge.Edge.{Edge}
 use Rattle.ecd_graph.specs.Graphs.{NumbersComponents, AreInOrder}
 use Rattle.ecd_syntax.specs.declared.tree.Rule.{Rule}
 use Rattle.ecd_uses.specs.declared.site.Site.{Site}
 use Rattle.ecd_uses.specs.declared.site.Site.TheVariants.{Use, Parenthesis}
 use Rattle.ecd_uses.specs.Sites.{sites_of}
+use Rattle.ecd_rules.specs.Edges.{edge_between}
 use Rattle.ecd_rules.specs.Named.{all_rules, first_of, is_parameter}
-
--- an edge between these nodes, where both are there
-abbrev pub edge_between : Option ℕ → Option ℕ → List Edge
-edge_between (Some a) (Some b) = record { from = a; to = b } ∷ []
-edge_between (Some a) None = []
-edge_between None to = []
 
 -- a use of a name leads to the node of the name; a parameter leads nowhere
 abbrev pub site_edges : (List ℕ → Option ℕ) → Rule → Site → List Edge
@@ -26,8 +21,8 @@ rule_edges node rule = flat_map (site_edges node rule) (sites_of rule)
 abbrev pub edges_of : List Rule → List Edge
 edges_of text = flat_map (rule_edges (first_of text)) (all_rules text)
 
--- nodes have one number where they lead to each other, and no node leads to one of a greater number
-pub record AreLevels (text : List Rule) (levels : List ℕ) : Type 0 where
-  pub each : length levels ≡ length (all_rules text)
-  pub components : NumbersComponents (length (all_rules text)) (edges_of text) levels
-  pub order : AreInOrder (length (all_rules text)) (edges_of text) levels
+-- the numbers of the strongly connected components, in reverse topological order: nodes have one number exactly where they lead to each other, and no node leads to one of a greater number
+pub record AreComponents (text : List Rule) (numbers : List ℕ) : Type 0 where
+  pub each : length numbers ≡ length (all_rules text)
+  pub components : NumbersComponents (length (all_rules text)) (edges_of text) numbers
+  pub order : AreInOrder (length (all_rules text)) (edges_of text) numbers

@@ -2,7 +2,7 @@
 
 ghost use Rattle.std.specs.Prelude.{◌≡◌, ◌++◌, ℕ, ◌<◌, IfOk, OnOk, length};
 ghost use Rattle.ecd_rules.specs.Named.{all_rules, first_of};
-ghost use Rattle.ecd_names.specs.Edges.{edge_between, site_edges, rule_edges, edges_of, AreLevels};
+ghost use Rattle.ecd_names.specs.Edges.{site_edges, rule_edges, edges_of, AreComponents};
 ghost use Rattle.ecd_names.specs.Parameters.{AreParameters};
 ghost use Rattle.ecd_names.specs.Scopes.{IsScope, AreScopes};
 
@@ -11,21 +11,10 @@ use crate::scope::Scope;
 use ecd_graph::{Edge, components};
 use ecd_list::OutOfMemory;
 use ecd_rules::RuleTable;
+use ecd_rules::edge::add_edge;
 use ecd_syntax::Rule;
 use ecd_uses::Site;
 use std::alloc::Global;
-
-/// Adds an edge between two nodes, where both are there.
-fn add_edge(edges: &mut Vec<Edge>, from: Option<u32>, to: Option<u32>) -> Result<(), OutOfMemory>
-    ensures { OnOk result (edges.new.items ≡ edges.old.items ++ edge_between from to) }
-{
-    if let Some(from) = from {
-        if let Some(to) = to {
-            edges.push(Edge { from, to })?;
-        }
-    }
-    Ok(())
-}
 
 /// Adds the edge of a site of a rule, whose name has its first rule at `from`.
 fn add_site(
@@ -84,16 +73,16 @@ fn edges(alloc: Global, table: &RuleTable, scopes: &[Scope]) -> Result<Vec<Edge>
     Ok(edges)
 }
 
-/// A level for each rule that is the first of its name: names that lead to each other have one, and no name leads to one of a greater level.
-pub(crate) fn levels(
+/// The numbers of the strongly connected components of the names, each under the number of a name's first rule, in reverse topological order: names have one number exactly where they lead to each other, and no name leads to one of a greater number.
+pub(crate) fn component_numbers(
     alloc: Global,
     table: &RuleTable,
     scopes: &[Scope],
 ) -> Result<Vec<u32>, OutOfMemory>
     requires { AreScopes (all_rules table.now) scopes.now }
-    ensures { IfOk result (λ levels. AreLevels table.now levels.items) }
+    ensures { IfOk result (λ numbers. AreComponents table.now numbers.items) }
 {
     let edges = edges(alloc, table, scopes)?;
-    let levels = components(alloc, table.rule_count(), &edges)?;
-    Ok(levels)
+    let numbers = components(alloc, table.rule_count(), &edges)?;
+    Ok(numbers)
 }

@@ -4,12 +4,12 @@ ghost use Rattle.std.specs.Prelude.{◌≡◌, None, IfOk, OnOk};
 ghost use Rattle.ecd_rules.specs.Named.{all_rules};
 ghost use Rattle.ecd_rules.specs.Leading.{IsRanked};
 ghost use Rattle.ecd_names.specs.Breaks.{Breaks};
-ghost use Rattle.ecd_names.specs.Edges.{AreLevels};
+ghost use Rattle.ecd_names.specs.Edges.{AreComponents};
 ghost use Rattle.ecd_names.specs.First.{Sees};
 ghost use Rattle.ecd_names.specs.Names.{HasFewParameters};
 ghost use Rattle.ecd_names.specs.Scopes.{AreScopes};
 
-use crate::edges::levels;
+use crate::edges::component_numbers;
 use crate::first::{Broken, First};
 use crate::judge_name::judge_rule;
 use crate::scene::Scene;
@@ -23,11 +23,11 @@ fn judge_rules(
     alloc: Global,
     table: &RuleTable,
     scopes: &[Scope],
-    levels: &[u32],
+    components: &[u32],
     first: &mut First,
 ) -> Result<(), OutOfMemory>
     requires scopes { AreScopes (all_rules table.now) scopes.now }
-    requires levels { AreLevels table.now levels.now }
+    requires components { AreComponents table.now components.now }
     ensures { OnOk result (Sees first.old.broken first.new.broken (Breaks table.now)) }
 {
     let rules = table.text_rules();
@@ -35,7 +35,7 @@ fn judge_rules(
     for (index, rule) in rules.iter().enumerate() {
         let scene = Scene {
             table,
-            levels,
+            components,
             rule,
             scope: &scopes[prelude + index],
             prelude,
@@ -53,8 +53,8 @@ pub(crate) fn first_broken(alloc: Global, table: &RuleTable) -> Result<Option<Br
     ensures few { IfOk result (λ _. HasFewParameters table.now) }
 {
     let scopes = scopes_of(alloc, table)?;
-    let levels = levels(alloc, table, &scopes)?;
+    let components = component_numbers(alloc, table, &scopes)?;
     let mut first = First { broken: None };
-    judge_rules(alloc, table, &scopes, &levels, &mut first)?;
+    judge_rules(alloc, table, &scopes, &components, &mut first)?;
     Ok(first.broken)
 }

@@ -92,8 +92,9 @@ impl Names {
 ///
 /// # Errors
 ///
-/// `At` with the first broken rule: the least place, and there the least number. `OutOfMemory` where memory is wanting. These count as that: 2^32 - 1 rules or
-/// more, 2^32 parameters of one rule, and choices of a type inside each other in more than 1,000 levels.
+/// `At` with the first broken rule: the least place, and there the least number. `OutOfMemory` where memory is wanting. These count as that: more than
+/// 2^32 - 1 rules of the prelude and the text together, more than 2^32 - 1 parameters or sites of one rule, and choices of a type inside each other in more
+/// than 1,000 levels.
 pub fn resolve(alloc: Global, tree: Tree) -> Result<Names, NameFault>
     // Names that are taken are those of the tree.
     ensures same { IfOk result (λ names. names ≡ tree.rules) }

@@ -5,11 +5,11 @@ ghost use Rattle.ecd_rules.specs.Named.{is_parameter as parameter};
 ghost use Rattle.ecd_rules.specs.Kinds.{LeadsToGroup, IsGroup};
 ghost use Rattle.ecd_rules.specs.Leading.{Uses};
 ghost use Rattle.ecd_names.specs.Breaks.{IsUndefined, IsRecursive, arity_in, IsGroupIn, IsOtherKind};
-ghost use Rattle.ecd_names.specs.Scenes.{IsScene, HaveOneLevel};
+ghost use Rattle.ecd_names.specs.Scenes.{IsScene, AreInOneComponent};
 
 use crate::scope::Scope;
-use crate::socket::is_socket;
 use ecd_rules::RuleTable;
+use ecd_rules::socket::is_socket;
 use ecd_syntax::Rule;
 use ecd_uses::{Asked, Lead};
 
@@ -17,8 +17,8 @@ use ecd_uses::{Asked, Lead};
 #[derive(Clone, Copy)]
 pub(crate) struct Scene<'a> {
     pub(crate) table: &'a RuleTable,
-    /// The level of each name, under the number of its first rule.
-    pub(crate) levels: &'a [u32],
+    /// The number of each name's strongly connected component, under the number of its first rule.
+    pub(crate) components: &'a [u32],
     pub(crate) rule: &'a Rule,
     pub(crate) scope: &'a Scope,
     /// The number of the prelude's rules, which stand before those of the text.
@@ -44,14 +44,14 @@ impl<'a> Scene<'a> {
         !self.is_parameter(name) && !is_socket(name) && !self.table.is_defined(name)
     }
 
-    /// Whether both names have rules, of one level.
-    fn have_one_level(&self, a: &[u8], b: &[u8]) -> bool
+    /// Whether both names have rules, and lead to each other.
+    fn are_in_one_component(&self, a: &[u8], b: &[u8]) -> bool
         requires { IsScene self.now }
-        ensures { (result ≡ true) ↔ HaveOneLevel self.now.table.now self.now.levels.now a.now b.now }
+        ensures { (result ≡ true) ↔ AreInOneComponent self.now.table.now self.now.components.now a.now b.now }
     {
         match self.table.first(a) {
             Some(first) => match self.table.first(b) {
-                Some(second) => self.levels[first as usize] == self.levels[second as usize],
+                Some(second) => self.components[first as usize] == self.components[second as usize],
                 None => false,
             },
             None => false,
@@ -64,7 +64,7 @@ impl<'a> Scene<'a> {
         requires used { parameter self.now.rule.now.params name.now ≡ false → Uses self.now.table.now self.now.rule.now.name.text name.now }
         ensures { (result ≡ true) ↔ IsRecursive self.now.table.now self.now.rule.now name.now }
     {
-        !self.is_parameter(name) && self.have_one_level(self.rule.name.text.as_slice(), name)
+        !self.is_parameter(name) && self.are_in_one_component(self.rule.name.text.as_slice(), name)
     }
 
     /// N4: the number of arguments that the name takes.

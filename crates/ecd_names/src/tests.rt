@@ -111,6 +111,56 @@ fn the_first_broken_rule_is_named(rt: HostRuntime) -> Result<(), Fail> {
 }
 
 #[test]
+fn a_name_leads_back_through_every_use(rt: HostRuntime) -> Result<(), Fail> {
+    for (text, place) in [
+        ("a = b b = a", 4),
+        ("a = [b] b = [c] c = [a]", 5),
+        ("a = [x: a]", 8),
+        ("a = {a => int}", 5),
+        ("a = b<a> b<t> = [t]", 6),
+        ("a = b<a> b<t> = [int]", 6),
+        ("a = #6.1(a)", 9),
+        ("a = 1..a", 7),
+        ("a = bstr .cbor a", 15),
+        ("a = ~b b = [a]", 5),
+        ("a = &g g = (x: a)", 5),
+        ("a = [$s] $s /= a", 5),
+        ("$s /= a a = [$s]", 6),
+        ("a = {$$s} $$s //= (x: a)", 5),
+        ("$$s //= (x: a) a = {$$s}", 12),
+    ] {
+        assert_eq!(rt; fault_of(rt.alloc(), text)?, (3, place), "{text}");
+    }
+    Ok(())
+}
+
+#[test]
+fn names_of_the_prelude_and_sockets_are_judged_too(rt: HostRuntime) -> Result<(), Fail> {
+    for (text, rule, place) in [
+        // The prelude defines its names, those of floats among them.
+        ("a = 1 float /= int", 1, 6),
+        ("a = 1 text //= tstr", 1, 6),
+        ("float32<t> = t", 1, 0),
+        // A plug defines its name too.
+        ("$$s //= (x: int) $$s = (y: int)", 1, 17),
+        ("a //= (x: int) a = 1", 1, 15),
+        // None of the prelude's names takes an argument, and a socket takes those of its first plug.
+        ("a = float<int>", 4, 4),
+        ("a = [? uint<int>]", 4, 7),
+        ("$s<t> /= t a = $s", 4, 15),
+        ("$s<t> /= t a = $s<int>", 0, 0),
+        ("$s /= int $s<t> /= t", 4, 10),
+        // No name of the prelude is a group.
+        ("a = &int", 5, 5),
+        ("a = &float", 5, 5),
+        ("a = &$s", 5, 5),
+    ] {
+        assert_eq!(rt; fault_of(rt.alloc(), text)?, (rule, place), "{text}");
+    }
+    Ok(())
+}
+
+#[test]
 fn names_are_told(rt: HostRuntime) -> Result<(), Fail> {
     let alloc = rt.alloc();
     let text = "a = [$s, g, b<int>] $s /= int $s /= tstr g = (int, int) b<t> = (t) b<u> /= [u]";

@@ -1,12 +1,14 @@
 -- The groups solve what defines them.
-use Rattle.std.proofs.Common.{◌⊎◌, inl, inr, ℕ, zero, suc, List}
+use Rattle.std.proofs.Common.{◌≡◌, ◌⊎◌, inl, inr, ℕ, zero, suc, true, false, List}
+use Rattle.ecd_prelude.specs.Laws.{is_socket}
 use Rattle.ecd_syntax.specs.declared.tree.Name.{Name}
 use Rattle.ecd_syntax.specs.declared.tree.Rule.{Rule}
 use Rattle.ecd_uses.specs.declared.site.Lead.{Lead}
 use Rattle.ecd_uses.specs.declared.site.Lead.TheVariants as leads
 use Rattle.ecd_uses.specs.Leads.{lead_of}
-use Rattle.ecd_rules.specs.Kinds.{IsSocket, IsGroupSocket, LeadsToGroup, MakesGroup, HasGroupRule, GroupWithin, IsGroup}
+use Rattle.ecd_rules.specs.Kinds.{LeadsToGroup, MakesGroup, HasGroupRule, GroupWithin, IsGroup}
 use Rattle.ecd_rules.specs.Laws.{GroupsByRules}
+use Rattle.ecd_rules.specs.Sockets.{is_group_socket}
 
 module _ (text : List Rule) where
   lead_shown : (steps : ℕ) (params : List Name) (lead : Lead) → LeadsToGroup (GroupWithin text steps) params lead → LeadsToGroup (IsGroup text) params lead
@@ -19,7 +21,7 @@ module _ (text : List Rule) where
   lead_within params leads.Type h = absurd h
   lead_within params (leads.Named name) h = (h.1.steps, (h.0, h.1.shown))
 
-  shown : (steps : ℕ) (name : List ℕ) → GroupWithin text steps name → IsGroupSocket name ⊎ ((IsSocket name → ⊥) × HasGroupRule (IsGroup text) text name)
+  shown : (steps : ℕ) (name : List ℕ) → GroupWithin text steps name → (is_group_socket name ≡ true) ⊎ ((is_socket name ≡ false) × HasGroupRule (IsGroup text) text name)
   shown zero name h = absurd h
   shown (suc steps) name (inl s) = inl s
   shown (suc steps) name (inr h) = let g = h.1 in inr (h.0, record { rule = g.rule; among = g.among; named = g.named; makes = by g.rule g.makes })
@@ -32,7 +34,7 @@ module _ (text : List Rule) where
   makes_within rule (inl more) = (0, inl more)
   makes_within rule (inr lead) = let r = lead_within rule.params (lead_of rule.body) lead in (r.0, inr r.1)
 
-  within : (name : List ℕ) → IsGroupSocket name ⊎ ((IsSocket name → ⊥) × HasGroupRule (IsGroup text) text name) → IsGroup text name
+  within : (name : List ℕ) → (is_group_socket name ≡ true) ⊎ ((is_socket name ≡ false) × HasGroupRule (IsGroup text) text name) → IsGroup text name
   within name (inl s) = record { steps = 1; shown = inl s }
   within name (inr h) =
       let g = h.1 in

@@ -7,6 +7,7 @@ use Rattle.std.proofs.lemmas.Option.{slice_get_within}
 use Rattle.ecd_graph.specs.declared.edge.Edge.{Edge}
 use Rattle.ecd_graph.specs.Graphs.{IsEdge, Walks, Reaches, IsMarked, IsReached, AreAmong}
 use Rattle.ecd_graph.proofs.Reaching.{reaches_itself, reaches_by, reaches_on}
+use Rattle.ecd_prelude.specs.Laws.{is_socket}
 use Rattle.ecd_syntax.specs.declared.tree.Assign.{Assign}
 use Rattle.ecd_syntax.specs.declared.tree.Assign.TheVariants.{Define, TypeMore, GroupMore}
 use Rattle.ecd_syntax.specs.declared.tree.Name.{Name}
@@ -15,11 +16,13 @@ use Rattle.ecd_uses.specs.declared.site.Lead.{Lead}
 use Rattle.ecd_uses.specs.declared.site.Lead.TheVariants as leads
 use Rattle.ecd_uses.specs.Leads.{lead_of}
 use Rattle.ecd_rules.specs.Named.{all_rules, is_named, is_parameter}
-use Rattle.ecd_rules.specs.Kinds.{IsSocket, IsGroupSocket, LeadsToGroup, MakesGroup, GroupWithin, IsGroup}
-use Rattle.ecd_rules.specs.Causes.{begins_socket, begins_group_socket, is_group_more, node_or_source, lead_cause, rule_cause, edge_between, edges_of_rule}
+use Rattle.ecd_rules.specs.Kinds.{LeadsToGroup, MakesGroup, GroupWithin, IsGroup}
+use Rattle.ecd_rules.specs.Causes.{is_group_more, node_or_source, lead_cause, rule_cause, edges_of_rule}
+use Rattle.ecd_rules.specs.Edges.{edge_between}
+use Rattle.ecd_rules.specs.Sockets.{is_group_socket}
 use Rattle.ecd_rules.proofs.Firsts.{FirstAt, first_at, among, one_name, has_first}
 use Rattle.ecd_rules.proofs.Numbering.{slice_get_left, slice_get_right}
-use Rattle.ecd_rules.proofs.Sockets.{is_group_socket, group_socket_begins, not_socket, no_socket, no_group_socket}
+use Rattle.ecd_rules.proofs.Sockets.{no_group_socket}
 
 -- ---- the edges of a list of rules
 
@@ -89,33 +92,33 @@ module _ (text rules : List Rule) (all : rules ≡ all_rules text) (first : List
   abbrev AllGroups : ℕ → Type 0
   AllGroups v = (name : List ℕ) → first name ≡ Some v → IsGroup text name
 
-  socket_group : (name : List ℕ) → begins_group_socket name ≡ true → IsGroup text name
-  socket_group name h = record { steps = 1; shown = inl (is_group_socket name h) }
+  socket_group : (name : List ℕ) → is_group_socket name ≡ true → IsGroup text name
+  socket_group name h = record { steps = 1; shown = inl h }
 
-  made : (rule : Rule) → Contains rules rule → (IsSocket rule.name.text → ⊥) → (steps : ℕ) → MakesGroup (GroupWithin text steps) rule → IsGroup text rule.name.text
+  made : (rule : Rule) → Contains rules rule → is_socket rule.name.text ≡ false → (steps : ℕ) → MakesGroup (GroupWithin text steps) rule → IsGroup text rule.name.text
   made rule c not steps m = record { steps = suc steps; shown = inr (not, record { rule = rule; among = subst (λ (l : List Rule). Contains l rule) all c; named = refl; makes = m }) }
 
   lead_made : (params : List Name) (lead : Lead) (u : ℕ) → lead_cause first source params lead ≡ Some u → AllGroups u → (steps : ℕ) × LeadsToGroup (GroupWithin text steps) params lead
   lead_made params leads.Group u h g = (0, tt)
   lead_made params leads.Type u h g = cc
-  lead_made params (leads.Named name) u h g = by (is_parameter params name.text) refl (first name.text) refl (begins_group_socket name.text) refl h
+  lead_made params (leads.Named name) u h g = by (is_parameter params name.text) refl (first name.text) refl (is_group_socket name.text) refl h
     where
-      by : (b : Bool) → is_parameter params name.text ≡ b → (o : Option ℕ) → first name.text ≡ o → (s : Bool) → begins_group_socket name.text ≡ s
+      by : (b : Bool) → is_parameter params name.text ≡ b → (o : Option ℕ) → first name.text ≡ o → (s : Bool) → is_group_socket name.text ≡ s
           → cond b None (node_or_source source name.text o) ≡ Some u → (steps : ℕ) × LeadsToGroup (GroupWithin text steps) params (leads.Named name)
       by true is o f s t e = cc
       by false is (Some m) f s t e = let same : m ≡ u = cc in let group = g name.text (f ∙ ap Some same) in (group.steps, (is, group.shown))
-      by false is None f true t e = (1, (is, inl (is_group_socket name.text t)))
+      by false is None f true t e = (1, (is, inl t))
       by false is None f false t e = let none : None ≡ Some u = ap (λ (b : Bool). cond b (Some source) None) (sym t) ∙ e in cc
 
   rule_made : (rule : Rule) → Contains rules rule → (u : ℕ) → rule_cause first source rule ≡ Some u → AllGroups u → IsGroup text rule.name.text
-  rule_made rule c u h g = by (begins_group_socket rule.name.text) refl (begins_socket rule.name.text) refl (is_group_more rule.assign) refl h
+  rule_made rule c u h g = by (is_group_socket rule.name.text) refl (is_socket rule.name.text) refl (is_group_more rule.assign) refl h
     where
-      by : (a : Bool) → begins_group_socket rule.name.text ≡ a → (b : Bool) → begins_socket rule.name.text ≡ b → (d : Bool) → is_group_more rule.assign ≡ d
+      by : (a : Bool) → is_group_socket rule.name.text ≡ a → (b : Bool) → is_socket rule.name.text ≡ b → (d : Bool) → is_group_more rule.assign ≡ d
           → cond a (Some source) (cond b None (cond d (Some source) (lead_cause first source rule.params (lead_of rule.body)))) ≡ Some u → IsGroup text rule.name.text
       by true is b f d m e = socket_group rule.name.text is
       by false is true f d m e = cc
-      by false is false f true m e = made rule c (not_socket rule.name.text f) 0 (inl (group_more rule.assign m))
-      by false is false f false m e = let r = lead_made rule.params (lead_of rule.body) u e g in made rule c (not_socket rule.name.text f) r.0 (inr r.1)
+      by false is false f true m e = made rule c f 0 (inl (group_more rule.assign m))
+      by false is false f false m e = let r = lead_made rule.params (lead_of rule.body) u e g in made rule c f r.0 (inr r.1)
 
   edge_made : (u v : ℕ) → IsEdge edges u v → AllGroups u → AllGroups v
   edge_made u v e g name is =
@@ -159,12 +162,12 @@ module _ (text rules : List Rule) (all : rules ≡ all_rules text) (first : List
       let c = each name.text h.1 in
       (c.node, ap (λ (b : Bool). cond b None (node_or_source source name.text (first name.text))) h.0 ∙ c.is, c.reaches)
 
-  plain : (rule : Rule) → (IsSocket rule.name.text → ⊥) → rule_cause first source rule ≡ cond (is_group_more rule.assign) (Some source) (lead_cause first source rule.params (lead_of rule.body))
+  plain : (rule : Rule) → is_socket rule.name.text ≡ false → rule_cause first source rule ≡ cond (is_group_more rule.assign) (Some source) (lead_cause first source rule.params (lead_of rule.body))
   plain rule not =
       let rest : Option ℕ = cond (is_group_more rule.assign) (Some source) (lead_cause first source rule.params (lead_of rule.body)) in
-      ap (λ (b : Bool). cond b (Some source) (cond (begins_socket rule.name.text) None rest)) (no_group_socket rule.name.text not) ∙ ap (λ (b : Bool). cond b None rest) (no_socket rule.name.text not)
+      ap (λ (b : Bool). cond b (Some source) (cond (is_socket rule.name.text) None rest)) (no_group_socket rule.name.text not) ∙ ap (λ (b : Bool). cond b None rest) not
 
-  made_caused : (Groups : List ℕ → Type 0) → ((name : List ℕ) → Groups name → Caused name) → (rule : Rule) → Contains rules rule → (IsSocket rule.name.text → ⊥) → MakesGroup Groups rule → Caused rule.name.text
+  made_caused : (Groups : List ℕ → Type 0) → ((name : List ℕ) → Groups name → Caused name) → (rule : Rule) → Contains rules rule → is_socket rule.name.text ≡ false → MakesGroup Groups rule → Caused rule.name.text
   made_caused Groups each rule c not (inl more) =
       let cause : rule_cause first source rule ≡ Some source =
       plain rule not ∙ ap (λ (a : Assign). cond (is_group_more a) (Some source) (lead_cause first source rule.params (lead_of rule.body))) more in
@@ -178,18 +181,15 @@ module _ (text rules : List Rule) (all : rules ≡ all_rules text) (first : List
           let r = lead_caused Groups each rule.params (lead_of rule.body) lead in
           caused_by rule c r.0 (plain rule not ∙ (ap (λ (b : Bool). cond b (Some source) (lead_cause first source rule.params (lead_of rule.body))) is ∙ r.1)) r.2
 
-  socket_caused : (name : List ℕ) → IsGroupSocket name → Caused name
+  socket_caused : (name : List ℕ) → is_group_socket name ≡ true → Caused name
   socket_caused name s = by (first name) refl
     where
-      begins : begins_group_socket name ≡ true
-      begins = group_socket_begins name s
-
       by : (o : Option ℕ) → first name ≡ o → Caused name
-      by None e = record { node = source; is = ap (node_or_source source name) e ∙ ap (λ (b : Bool). cond b (Some source) None) begins; reaches = reaches_itself edges source }
+      by None e = record { node = source; is = ap (node_or_source source name) e ∙ ap (λ (b : Bool). cond b (Some source) None) s; reaches = reaches_itself edges source }
       by (Some k) e =
           let f = at_first name k e in
-          let yes : begins_group_socket f.rule.name.text ≡ true = ap begins_group_socket f.named ∙ begins in
-          let rest : Option ℕ = cond (begins_socket f.rule.name.text) None (cond (is_group_more f.rule.assign) (Some source) (lead_cause first source f.rule.params (lead_of f.rule.body))) in
+          let yes : is_group_socket f.rule.name.text ≡ true = ap is_group_socket f.named ∙ s in
+          let rest : Option ℕ = cond (is_socket f.rule.name.text) None (cond (is_group_more f.rule.assign) (Some source) (lead_cause first source f.rule.params (lead_of f.rule.body))) in
           let cause : rule_cause first source f.rule ≡ Some source = ap (λ (b : Bool). cond b (Some source) rest) yes in
           subst Caused f.named (caused_by f.rule (among rules name k f) source cause (reaches_itself edges source))
 
@@ -198,7 +198,7 @@ module _ (text rules : List Rule) (all : rules ≡ all_rules text) (first : List
   caused (suc steps) name (inl s) = socket_caused name s
   caused (suc steps) name (inr h) =
       let g = h.1 in
-      let not : IsSocket g.rule.name.text → ⊥ = λ s. h.0 (subst IsSocket g.named s) in
+      let not : is_socket g.rule.name.text ≡ false = ap is_socket g.named ∙ h.0 in
       subst Caused g.named (made_caused (GroupWithin text steps) (caused steps) g.rule (subst (λ (l : List Rule). Contains l g.rule) (sym all) g.among) not g.makes)
 
   pub is_complete : (marked : List Bool) → IsMarked marked source → (k : ℕ) (name : List ℕ) → first name ≡ Some k → IsGroup text name → IsReached edges marked k
@@ -210,12 +210,12 @@ module _ (text rules : List Rule) (all : rules ≡ all_rules text) (first : List
 
   -- ---- names without a rule
 
-  pub without_rule : (name : List ℕ) → first name ≡ None → (begins_group_socket name ≡ true) ↔ IsGroup text name
+  pub without_rule : (name : List ℕ) → first name ≡ None → (is_group_socket name ≡ true) ↔ IsGroup text name
   without_rule name none = (socket_group name, λ g. back g.steps g.shown)
     where
-      back : (steps : ℕ) → GroupWithin text steps name → begins_group_socket name ≡ true
+      back : (steps : ℕ) → GroupWithin text steps name → is_group_socket name ≡ true
       back zero h = absurd h
-      back (suc steps) (inl s) = group_socket_begins name s
+      back (suc steps) (inl s) = s
       back (suc steps) (inr h) =
           let g = h.1 in
           let f = some_first g.rule (subst (λ (l : List Rule). Contains l g.rule) (sym all) g.among) in
@@ -227,16 +227,16 @@ module _ (text rules : List Rule) (all : rules ≡ all_rules text) (first : List
   lead_within : (params : List Name) (lead : Lead) (u : ℕ) → lead_cause first source params lead ≡ Some u → u < suc source
   lead_within params leads.Group u h = let same : source ≡ u = cc in omega arith
   lead_within params leads.Type u h = cc
-  lead_within params (leads.Named name) u h = by (is_parameter params name.text) (first name.text) refl (begins_group_socket name.text) refl h
+  lead_within params (leads.Named name) u h = by (is_parameter params name.text) (first name.text) refl (is_group_socket name.text) refl h
     where
-      by : (b : Bool) (o : Option ℕ) → first name.text ≡ o → (s : Bool) → begins_group_socket name.text ≡ s → cond b None (node_or_source source name.text o) ≡ Some u → u < suc source
+      by : (b : Bool) (o : Option ℕ) → first name.text ≡ o → (s : Bool) → is_group_socket name.text ≡ s → cond b None (node_or_source source name.text o) ≡ Some u → u < suc source
       by true o f s t e = cc
       by false (Some m) f s t e = let same : m ≡ u = cc in let lt = within name.text m f in omega arith
       by false None f true t e = let both : Some source ≡ Some u = ap (λ (b : Bool). cond b (Some source) None) (sym t) ∙ e in let same : source ≡ u = cc in omega arith
       by false None f false t e = let none : None ≡ Some u = ap (λ (b : Bool). cond b (Some source) None) (sym t) ∙ e in cc
 
   rule_within : (rule : Rule) (u : ℕ) → rule_cause first source rule ≡ Some u → u < suc source
-  rule_within rule u h = by (begins_group_socket rule.name.text) (begins_socket rule.name.text) (is_group_more rule.assign) h
+  rule_within rule u h = by (is_group_socket rule.name.text) (is_socket rule.name.text) (is_group_more rule.assign) h
     where
       by : (a b d : Bool) → cond a (Some source) (cond b None (cond d (Some source) (lead_cause first source rule.params (lead_of rule.body)))) ≡ Some u → u < suc source
       by true b d e = let same : source ≡ u = cc in omega arith

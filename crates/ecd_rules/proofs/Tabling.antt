@@ -7,7 +7,8 @@ use Rattle.ecd_prelude.specs.Prelude.{prelude_rules}
 use Rattle.ecd_syntax.specs.declared.tree.Rule.{Rule}
 use Rattle.ecd_rules.specs.Named.{is_named, all_rules, bodies_of, first_of, first_arity}
 use Rattle.ecd_rules.specs.Kinds.{IsGroup}
-use Rattle.ecd_rules.specs.Causes.{begins_group_socket, AreJudged}
+use Rattle.ecd_rules.specs.Causes.{AreJudged}
+use Rattle.ecd_rules.specs.Sockets.{is_group_socket}
 use Rattle.ecd_rules.specs.Numbers.{numbers_in, first_in, numbers_from, IsNumbered}
 use Rattle.ecd_rules.specs.Tables.{IsTable}
 use Rattle.ecd_rules.proofs.Firsts.{first_at}
@@ -101,7 +102,7 @@ module _ (prelude text : List Rule) (entries : List (Vec ℕ Global × List ℕ)
         let lt = slice_get_within (all_rules text) k f.rule f.stands in
         omega (arith, lt, t.marks)
 
-  pub unruled_is : (name : List ℕ) → first_of text name ≡ None → (begins_group_socket name ≡ true) ↔ IsGroup text name
+  pub unruled_is : (name : List ℕ) → first_of text name ≡ None → (is_group_socket name ≡ true) ↔ IsGroup text name
   unruled_is name h = without_rule text (all_rules text) refl (first_in entries) first_is (length (all_rules text)) refl name (first_is name ∙ h)
 
 -- ---- the number of parameters

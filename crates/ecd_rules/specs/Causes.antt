@@ -1,6 +1,7 @@
 -- What makes names groups, as edges of a graph. The node of a name is the number of its first rule, and one node more, the source, makes a group by itself.
-use Rattle.std.specs.Prelude.{◌≡◌, ◌↔◌, ℕ, Bool, true, false, ◌&&◌, if◌then◌else◌, List, [], ◌∷◌, Option, Some, None, nat_eq, get_or}
+use Rattle.std.specs.Prelude.{◌≡◌, ◌↔◌, ℕ, Bool, true, false, if◌then◌else◌, List, Option, Some, None, get_or}
 use Rattle.ecd_graph.specs.declared.edge.Edge.{Edge}
+use Rattle.ecd_prelude.specs.Laws.{is_socket}
 use Rattle.ecd_syntax.specs.declared.tree.Assign.{Assign}
 use Rattle.ecd_syntax.specs.declared.tree.Assign.TheVariants.{Define, TypeMore, GroupMore}
 use Rattle.ecd_syntax.specs.declared.tree.Name.{Name}
@@ -9,17 +10,9 @@ use Rattle.ecd_uses.specs.declared.site.Lead.{Lead}
 use Rattle.ecd_uses.specs.declared.site.Lead.TheVariants as leads
 use Rattle.ecd_uses.specs.Leads.{lead_of}
 use Rattle.ecd_rules.specs.Named.{is_parameter}
+use Rattle.ecd_rules.specs.Sockets.{is_group_socket}
 use Rattle.ecd_rules.specs.Kinds.{IsGroup}
-
--- whether the name begins with `$`
-abbrev pub begins_socket : List ℕ → Bool
-begins_socket [] = false
-begins_socket (c ∷ rest) = nat_eq c 36
-
--- whether it begins with `$$`
-abbrev pub begins_group_socket : List ℕ → Bool
-begins_group_socket [] = false
-begins_group_socket (c ∷ rest) = nat_eq c 36 && begins_socket rest
+use Rattle.ecd_rules.specs.Edges.{edge_between}
 
 abbrev pub is_group_more : Assign → Bool
 is_group_more Define = false
@@ -29,13 +22,7 @@ is_group_more GroupMore = true
 -- the node of a used name: that of its first rule, or the source for a socket of a group without a rule
 abbrev pub node_or_source : ℕ → List ℕ → Option ℕ → Option ℕ
 node_or_source source name (Some node) = Some node
-node_or_source source name None = if begins_group_socket name then Some source else None
-
--- an edge where it has both ends
-abbrev pub edge_between : Option ℕ → Option ℕ → List Edge
-edge_between (Some from) (Some to) = record { from = from; to = to } ∷ []
-edge_between (Some from) None = []
-edge_between None to = []
+node_or_source source name None = if is_group_socket name then Some source else None
 
 module _ (first : List ℕ → Option ℕ) (source : ℕ) where
   -- the node that makes a group of what has this lead, if any does
@@ -47,8 +34,8 @@ module _ (first : List ℕ → Option ℕ) (source : ℕ) where
   -- the node by which a rule makes its name a group, if any does
   abbrev pub rule_cause : Rule → Option ℕ
   rule_cause rule =
-      if begins_group_socket rule.name.text then Some source else
-      if begins_socket rule.name.text then None else
+      if is_group_socket rule.name.text then Some source else
+      if is_socket rule.name.text then None else
       if is_group_more rule.assign then Some source else
       lead_cause rule.params (lead_of rule.body)
 

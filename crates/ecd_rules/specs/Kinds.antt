@@ -1,6 +1,7 @@
 -- Which names and entries are groups and which are types (RFC 8610, sections 2.1, 2.2 and 3.9).
-use Rattle.std.specs.Prelude.{ℕ, zero, suc, false, ◌≡◌, ◌⊎◌, List, ◌∷◌}
+use Rattle.std.specs.Prelude.{ℕ, zero, suc, true, false, ◌≡◌, ◌⊎◌, List}
 use Rattle.std.specs.List.{Contains}
+use Rattle.ecd_prelude.specs.Laws.{is_socket}
 use Rattle.ecd_syntax.specs.declared.tree.Assign.TheVariants.{GroupMore}
 use Rattle.ecd_syntax.specs.declared.tree.Entry.{Entry}
 use Rattle.ecd_syntax.specs.declared.tree.Name.{Name}
@@ -9,16 +10,7 @@ use Rattle.ecd_uses.specs.declared.site.Lead.{Lead}
 use Rattle.ecd_uses.specs.declared.site.Lead.TheVariants as leads
 use Rattle.ecd_uses.specs.Leads.{lead_of}
 use Rattle.ecd_rules.specs.Named.{all_rules, is_parameter}
-
--- a name that begins with `$` is a socket (RFC 8610, section 3.9)
-pub record IsSocket (name : List ℕ) : Type 0 where
-  pub rest : List ℕ
-  pub is : name ≡ 36 ∷ rest
-
--- one that begins with `$$` is a socket of a group
-pub record IsGroupSocket (name : List ℕ) : Type 0 where
-  pub rest : List ℕ
-  pub is : name ≡ 36 ∷ 36 ∷ rest
+use Rattle.ecd_rules.specs.Sockets.{is_group_socket}
 
 -- what a lead says is a group, where these names are groups; a parameter of the rule around is a type
 abbrev pub LeadsToGroup : (List ℕ → Type 0) → List Name → Lead → Type 0
@@ -40,7 +32,7 @@ pub record HasGroupRule (Groups : List ℕ → Type 0) (text : List Rule) (name 
 -- so many steps show that the name is a group
 abbrev pub GroupWithin : List Rule → ℕ → List ℕ → Type 0
 GroupWithin text zero name = ⊥
-GroupWithin text (suc steps) name = IsGroupSocket name ⊎ ((IsSocket name → ⊥) × HasGroupRule (GroupWithin text steps) text name)
+GroupWithin text (suc steps) name = (is_group_socket name ≡ true) ⊎ ((is_socket name ≡ false) × HasGroupRule (GroupWithin text steps) text name)
 
 -- The name is a group: finitely many steps show it. Every other name is a type, so names that lead round to each other alone are types.
 pub record IsGroup (text : List Rule) (name : List ℕ) : Type 0 where

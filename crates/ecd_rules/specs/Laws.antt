@@ -1,12 +1,13 @@
 -- What holds of names, their bodies, their kinds and where they lead.
-use Rattle.std.specs.Prelude.{◌≡◌, ◌↔◌, ◌⊎◌, ℕ, false, List, [], length, map}
+use Rattle.std.specs.Prelude.{◌≡◌, ◌↔◌, ◌⊎◌, ℕ, true, false, List, [], length, map}
 use Rattle.std.specs.List.{Contains}
-use Rattle.ecd_prelude.specs.Laws.{name_in}
+use Rattle.ecd_prelude.specs.Laws.{name_in, is_socket}
 use Rattle.ecd_prelude.specs.Prelude.{prelude_rules, float_names}
 use Rattle.ecd_syntax.specs.declared.tree.Rule.{Rule}
-use Rattle.ecd_rules.specs.Kinds.{IsSocket, IsGroupSocket, HasGroupRule, IsGroup}
+use Rattle.ecd_rules.specs.Kinds.{HasGroupRule, IsGroup}
 use Rattle.ecd_rules.specs.Leading.{Uses, LeadsTo, IsRanked}
 use Rattle.ecd_rules.specs.Named.{bodies_of, is_in_text, IsDefined}
+use Rattle.ecd_rules.specs.Sockets.{is_group_socket}
 
 -- with a ranking there is no recursion
 abbrev pub RankedNeverLeadsBack : Type 0
@@ -28,4 +29,4 @@ UndefinedHaveNoBody = (text : List Rule) (name : List ℕ) → (IsDefined text n
 
 -- Where the groups are known, a name is one where it is a socket of a group, or is no socket and one of its rules makes it one.
 abbrev pub GroupsByRules : Type 0
-GroupsByRules = (text : List Rule) (name : List ℕ) → IsGroup text name ↔ (IsGroupSocket name ⊎ ((IsSocket name → ⊥) × HasGroupRule (IsGroup text) text name))
+GroupsByRules = (text : List Rule) (name : List ℕ) → IsGroup text name ↔ ((is_group_socket name ≡ true) ⊎ ((is_socket name ≡ false) × HasGroupRule (IsGroup text) text name))

@@ -1,7 +1,9 @@
 pub mod Named
+pub mod Sockets
 pub mod Kinds
 pub mod Leading
 pub mod Laws
 pub mod Numbers
+pub mod Edges
 pub mod Causes
 pub mod Tables

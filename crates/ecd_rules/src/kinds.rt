@@ -5,28 +5,16 @@ ghost use Rattle.ecd_graph.specs.Graphs.{IsMarked};
 ghost use Rattle.ecd_prelude.specs.Prelude.{prelude_rules};
 ghost use Rattle.ecd_rules.specs.Named.{is_parameter as has_parameter, all_rules};
 ghost use Rattle.ecd_rules.specs.Numbers.{first_in, IsNumbered};
-ghost use Rattle.ecd_rules.specs.Causes.{begins_socket, begins_group_socket, is_group_more as makes_group, node_or_source, lead_cause as cause_of_lead, rule_cause as cause_of_rule, edge_between, edges_of_rule, AreJudged};
+ghost use Rattle.ecd_rules.specs.Causes.{is_group_more as makes_group, node_or_source, lead_cause as cause_of_lead, rule_cause as cause_of_rule, edges_of_rule, AreJudged};
 
+use crate::edge::add_edge;
 use crate::numbers::{NumberMap, first_number};
+use crate::socket::{is_group_socket, is_socket};
 use ecd_graph::{Edge, reached};
 use ecd_list::OutOfMemory;
 use ecd_syntax::{Assign, Name, Rule};
 use ecd_uses::{Lead, lead};
 use std::alloc::Global;
-
-/// Whether the name begins with `$` (RFC 8610, section 3.9).
-fn is_socket(name: &[u8]) -> bool
-    ensures { result ≡ begins_socket name.now }
-{
-    matches!(name, [b'$', ..])
-}
-
-/// Whether the name begins with `$$` (RFC 8610, section 3.9).
-pub(crate) fn is_group_socket(name: &[u8]) -> bool
-    ensures { result ≡ begins_group_socket name.now }
-{
-    matches!(name, [b'$', b'$', ..])
-}
 
 /// Whether the name is one of the parameters.
 fn is_parameter(params: &[Name], name: &[u8]) -> bool
@@ -93,18 +81,6 @@ fn rule_cause(
     }
     let lead = lead(alloc, &rule.body)?;
     Ok(lead_cause(numbers, source, rule.params.as_slice(), &lead))
-}
-
-/// Adds an edge where it has both ends.
-fn add_edge(edges: &mut Vec<Edge>, from: Option<u32>, to: Option<u32>) -> Result<(), OutOfMemory>
-    ensures { OnOk result (edges.new.items ≡ edges.old.items ++ edge_between from to) }
-{
-    if let Some(from) = from {
-        if let Some(to) = to {
-            edges.push(Edge { from, to })?;
-        }
-    }
-    Ok(())
 }
 
 /// Adds the edges of rules.

@@ -1,11 +1,14 @@
 //! The rules of a schema under their names: bodies, numbers of parameters, and which names are groups.
 #![tactic(auto)]
 
+pub mod edge;
 mod kinds;
 pub mod laws;
 mod numbers;
+pub mod socket;
 mod table;
 
+pub use ecd_graph::Edge;
 pub use ecd_list::OutOfMemory;
 pub use ecd_syntax::{Rule, Tree};
 pub use table::RuleTable;

@@ -5,8 +5,9 @@ ghost use Rattle.std.specs.Option.{option_copied};
 ghost use Rattle.ecd_rules.specs.Named.{all_rules, bodies_of, first_of, arity_of, IsDefined, is_in_text};
 ghost use Rattle.ecd_rules.specs.Kinds.{IsGroup};
 
-use crate::kinds::{group_marks, is_group_socket};
+use crate::kinds::group_marks;
 use crate::numbers::{NumberMap, first_number, last_number, number_at, number_rules, numbers_at};
+use crate::socket::is_group_socket;
 use ecd_list::OutOfMemory;
 use ecd_prelude::{is_float_name, prelude};
 use ecd_syntax::{Rule, RuleList, Tree};
@@ -45,7 +46,8 @@ impl RuleTable {
     ///
     /// # Errors
     ///
-    /// `OutOfMemory` where a growth was refused, there are 2^32 - 1 or more rules, or parentheses alone stand inside each other in more than 1,000 levels.
+    /// `OutOfMemory` where a growth was refused, there are more than 2^32 - 1 rules of the prelude and the text together, or parentheses alone stand inside
+    /// each other in more than 1,000 levels.
     pub fn new(alloc: Global, tree: Tree) -> Result<RuleTable, OutOfMemory>
         ensures { IfOk result (λ t. t ≡ tree.rules) }
     {

@@ -83,6 +83,22 @@ fn bodies_add_up_in_order(rt: HostRuntime) -> Result<(), Fail> {
 }
 
 #[test]
+fn the_text_adds_bodies_to_names_of_the_prelude(rt: HostRuntime) -> Result<(), Fail> {
+    let table = table_of(rt.alloc(), "a = 1 int /= tstr float /= int text //= tstr")?;
+    for (name, count, first, second) in [
+        ("int", 2, Some(0), Some(6)),
+        ("float", 1, Some(18), None),
+        ("text", 2, Some(0), Some(31)),
+        ("tstr", 1, Some(0), None),
+    ] {
+        assert_eq!(rt; table.body_count(name.as_bytes()), count, "{name}");
+        assert_eq!(rt; place_of(&table, name, 0), first, "{name}");
+        assert_eq!(rt; place_of(&table, name, 1), second, "{name}");
+    }
+    Ok(())
+}
+
+#[test]
 fn names_are_defined_by_the_text_or_the_prelude(rt: HostRuntime) -> Result<(), Fail> {
     let text = "a<b, c> = d a = int tstr /= int";
     let table = table_of(rt.alloc(), text)?;
@@ -111,6 +127,15 @@ fn names_are_defined_by_the_text_or_the_prelude(rt: HostRuntime) -> Result<(), F
 }
 
 #[test]
+fn names_that_lead_round_to_each_other_alone_are_types(rt: HostRuntime) -> Result<(), Fail> {
+    let table = table_of(rt.alloc(), "a = b b = a c = (a)")?;
+    for name in ["a", "b", "c"] {
+        assert!(rt; !table.is_group(name.as_bytes()), "{name}");
+    }
+    Ok(())
+}
+
+#[test]
 fn a_long_chain_leads_to_a_group(rt: HostRuntime) -> Result<(), Fail> {
     let mut text = String::new(rt.alloc());
     for i in 0..5_000u32 {
@@ -134,5 +159,46 @@ fn a_name_may_have_ten_thousand_bodies(rt: HostRuntime) -> Result<(), Fail> {
     let table = table_of(rt.alloc(), text.as_str())?;
     assert_eq!(rt; table.body_count("a".as_bytes()), 10_000);
     assert_eq!(rt; place_of(&table, "a", 9_999), Some(89_991));
+    Ok(())
+}
+
+#[test]
+fn sockets_begin_with_a_dollar_sign(rt: HostRuntime) -> Result<(), Fail> {
+    for (name, is_a_socket, is_of_a_group) in [
+        ("$a", true, false),
+        ("$", true, false),
+        ("$$a", true, true),
+        ("$$", true, true),
+        ("$a$", true, false),
+        ("a$$", false, false),
+        ("", false, false),
+    ] {
+        assert_eq!(rt; socket::is_socket(name.as_bytes()), is_a_socket, "{name}");
+        assert_eq!(rt;
+            socket::is_group_socket(name.as_bytes()),
+            is_of_a_group,
+            "{name}"
+        );
+    }
+    Ok(())
+}
+
+#[test]
+fn an_edge_wants_both_ends(rt: HostRuntime) -> Result<(), Fail> {
+    let mut edges: Vec<Edge> = Vec::new(rt.alloc());
+    for (from, to, count) in [
+        (Some(1), None, 0),
+        (None, Some(2), 0),
+        (Some(1), Some(2), 1),
+        (None, None, 1),
+        (Some(3), Some(1), 2),
+    ] {
+        edge::add_edge(&mut edges, from, to)
+            .ok()
+            .ok_or("no memory")?;
+        assert_eq!(rt; edges.len(), count);
+    }
+    let last = edges.last().map(|edge| (edge.from, edge.to));
+    assert_eq!(rt; last, Some((3, 1)));
     Ok(())
 }

@@ -29,7 +29,7 @@ judge_rule-requires c =
       stands = stands-text prelude_rules text rules same count c.rule_count.ensures c.loop-index.index rule c.loop-index-test.true c.index-rules-index.is;
       scope = scope_at (all_rules text) (count - length rules + c.loop-index.index) rule c.args.scopes.now c.index-scopes-prelude.result c.requires.scopes
           (stands-all prelude_rules text rules same count c.rule_count.ensures c.loop-index.index rule c.loop-index-test.true c.index-rules-index.is) c.index-scopes-prelude.is;
-      levels = c.requires.levels;
+      components = c.requires.components;
       prelude = count-before prelude_rules text rules same count c.rule_count.ensures;
       counted = omega (arith, c.rule_count.type_inv, count-within prelude_rules text rules same count c.rule_count.ensures c.loop-index.index rule c.loop-index-test.true);
     }

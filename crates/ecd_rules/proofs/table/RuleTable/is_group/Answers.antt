@@ -3,7 +3,7 @@ use Rattle.std.proofs.lemmas.List.{get_or_read}
 use Rattle.ecd_syntax.specs.declared.tree.Rule.{Rule}
 use Rattle.ecd_rules.specs.Named.{first_of}
 use Rattle.ecd_rules.specs.Kinds.{IsGroup}
-use Rattle.ecd_rules.specs.Causes.{begins_group_socket}
+use Rattle.ecd_rules.specs.Sockets.{is_group_socket}
 use Rattle.ecd_rules.proofs.Tabling.{judged_is, marked_is, unruled_is}
 use Rattle.ecd_rules.proofs.table.RuleTable.is_group.Goals as goal
 
@@ -21,4 +21,4 @@ returns-in-None c =
     let inside = c.self.inside in
     let first = ap (λ (text : List Rule). first_of text c.args.name.now) c.self.view_is in
     let unruled = unruled_is inside.prelude inside.text inside.numbers.entries inside.groups.items c.self.invariant c.args.name.now (first ∙ (sym c.first.ensures ∙ c.in-None.is)) in
-    subst (λ (b : Bool). (b ≡ true) ↔ IsGroup c.args.self.now c.args.name.now) (sym c.is_group_socket.ensures) (subst (λ (text : List Rule). (begins_group_socket c.args.name.now ≡ true) ↔ IsGroup text c.args.name.now) c.self.view_is unruled)
+    subst (λ (b : Bool). (b ≡ true) ↔ IsGroup c.args.self.now c.args.name.now) (sym c.is_group_socket.ensures) (subst (λ (text : List Rule). (is_group_socket c.args.name.now ≡ true) ↔ IsGroup text c.args.name.now) c.self.view_is unruled)

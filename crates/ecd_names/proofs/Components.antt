@@ -1,4 +1,4 @@
--- Levels of names, and where names lead back.
+-- The strongly connected components of names, and where names lead back.
 use Rattle.std.proofs.Common.{ℕ, suc, ◌≡◌, ◌≢◌, ◌<◌, ◌↔◌, false, List, length, get_or, refl, ap, sym, ◌∙◌, subst, arith}
 use Rattle.std.specs.Prelude.{Option, Some, None}
 use Rattle.ecd_graph.specs.declared.edge.Edge.{Edge}
@@ -7,8 +7,8 @@ use Rattle.ecd_syntax.specs.declared.tree.Rule.{Rule}
 use Rattle.ecd_rules.specs.Named.{all_rules, first_of, is_parameter}
 use Rattle.ecd_rules.specs.Leading.{Uses, LeadsTo, IsRanked}
 use Rattle.ecd_names.specs.Breaks.{IsRecursive}
-use Rattle.ecd_names.specs.Edges.{edges_of, AreLevels}
-use Rattle.ecd_names.specs.Scenes.{HaveOneLevel}
+use Rattle.ecd_names.specs.Edges.{edges_of, AreComponents}
+use Rattle.ecd_names.specs.Scenes.{AreInOneComponent}
 use Rattle.ecd_names.proofs.Walking.{some_same, element_at, at_element}
 use Rattle.ecd_names.proofs.Nodes.{node-named, node-below, node-of}
 use Rattle.ecd_names.proofs.Graphs.{AreNodes, use-edge, edge-use, leads-reaches, reaches-leads, node-leads}
@@ -41,13 +41,13 @@ module _ (text : List Rule) where
       let u = use-edge (first_of text) (all_rules text) x.from x.to (element_at (edges_of text) e x stands) in
       (node-below (all_rules text) u.rule.name.text x.from u.starts, node-below (all_rules text) u.name.text x.to u.ends)
 
-module _ (text : List Rule) (levels : List ℕ) (are : AreLevels text levels) where
+module _ (text : List Rule) (numbers : List ℕ) (are : AreComponents text numbers) where
   use-reaches : (a b : List ℕ) (x y : ℕ) → Uses text a b → first_of text a ≡ Some x → first_of text b ≡ Some y → Reaches (edges_of text) x y
   use-reaches a b x y u e f = record { steps = 1; walk = (y, node-edged text a b x y u e f, refl) }
 
-  -- a use leads back where both names have one level
-  pub level-back : (a b : List ℕ) (x y : ℕ) → Uses text a b → first_of text a ≡ Some x → first_of text b ≡ Some y → (get_or levels x 0 ≡ get_or levels y 0) ↔ LeadsTo text b a
-  level-back a b x y u e f =
+  -- a use leads back where both names are in one component
+  pub component-back : (a b : List ℕ) (x y : ℕ) → Uses text a b → first_of text a ≡ Some x → first_of text b ≡ Some y → (get_or numbers x 0 ≡ get_or numbers y 0) ↔ LeadsTo text b a
+  component-back a b x y u e f =
       let both = are.components x y (node-below (all_rules text) a x e) (node-below (all_rules text) b y f) in (
         λ same. leads-reaches text (edges_of text) (first_of text) (are-nodes text) y x b a f e (both.0 same).1,
         λ back. both.1 (use-reaches a b x y u e f, reaches-leads text (edges_of text) (first_of text) (are-nodes text) y x b a f e back),
@@ -60,32 +60,32 @@ module _ (text : List Rule) (levels : List ℕ) (are : AreLevels text levels) wh
       let y = node-leads text (edges_of text) (first_of text) (are-nodes text) b a x.0 x.1 back in
       let bad : None ≡ Some y.0 = sym e ∙ y.1 in absurd cc
 
-  -- a rule's use leads back where its name and the rule's have one level
-  pub level-recursive : (rule : Rule) (first name : List ℕ) → first ≡ rule.name.text → is_parameter rule.params name ≡ false → Uses text rule.name.text name → (HaveOneLevel text levels first name → IsRecursive text rule name) × (IsRecursive text rule name → HaveOneLevel text levels first name)
-  level-recursive rule first name same free u = (to, λ r. by_node (first_of text name) refl r.back)
+  -- a rule's use leads back where its name and the rule's are in one component
+  pub component-recursive : (rule : Rule) (first name : List ℕ) → first ≡ rule.name.text → is_parameter rule.params name ≡ false → Uses text rule.name.text name → (AreInOneComponent text numbers first name → IsRecursive text rule name) × (IsRecursive text rule name → AreInOneComponent text numbers first name)
+  component-recursive rule first name same free u = (to, λ r. by_node (first_of text name) refl r.back)
     where
-      to : HaveOneLevel text levels first name → IsRecursive text rule name
-      to h = record { free = free; back = (level-back rule.name.text name h.first h.second u (ap (first_of text) (sym same) ∙ h.first_is) h.second_is).0 h.same }
+      to : AreInOneComponent text numbers first name → IsRecursive text rule name
+      to h = record { free = free; back = (component-back rule.name.text name h.first h.second u (ap (first_of text) (sym same) ∙ h.first_is) h.second_is).0 h.same }
 
-      by_node : (o : Option ℕ) → first_of text name ≡ o → LeadsTo text name rule.name.text → HaveOneLevel text levels first name
+      by_node : (o : Option ℕ) → first_of text name ≡ o → LeadsTo text name rule.name.text → AreInOneComponent text numbers first name
       by_node None e back = absurd (none-back rule.name.text name u e back)
       by_node (Some y) e back =
           let x = node-starts text rule.name.text name u in
-          record { first = x.0; second = y; first_is = ap (first_of text) same ∙ x.1; second_is = e; same = (level-back rule.name.text name x.0 y u x.1 e).1 back }
+          record { first = x.0; second = y; first_is = ap (first_of text) same ∙ x.1; second_is = e; same = (component-back rule.name.text name x.0 y u x.1 e).1 back }
 
   abbrev rank : Option ℕ → ℕ
   rank None = 0
-  rank (Some n) = suc (get_or levels n 0)
+  rank (Some n) = suc (get_or numbers n 0)
 
-  -- where no use leads back, the levels are a ranking
-  pub levels-rank : ((a b : List ℕ) → Uses text a b → LeadsTo text b a → ⊥) → IsRanked text
-  levels-rank never = record { rank = λ name. rank (first_of text name); falls = falls }
+  -- where no use leads back, the numbers of the components are a ranking
+  pub components-rank : ((a b : List ℕ) → Uses text a b → LeadsTo text b a → ⊥) → IsRanked text
+  components-rank never = record { rank = λ name. rank (first_of text name); falls = falls }
     where
-      by_node : (a b : List ℕ) (x : ℕ) (o : Option ℕ) → Uses text a b → first_of text a ≡ Some x → first_of text b ≡ o → rank o < suc (get_or levels x 0)
+      by_node : (a b : List ℕ) (x : ℕ) (o : Option ℕ) → Uses text a b → first_of text a ≡ Some x → first_of text b ≡ o → rank o < suc (get_or numbers x 0)
       by_node a b x None u e f = omega arith
       by_node a b x (Some y) u e f =
           let le = are.order x y (node-below (all_rules text) a x e) (node-below (all_rules text) b y f) (use-reaches a b x y u e f) in
-          let apart : get_or levels x 0 ≢ get_or levels y 0 = λ same. never a b u ((level-back a b x y u e f).0 same) in
+          let apart : get_or numbers x 0 ≢ get_or numbers y 0 = λ same. never a b u ((component-back a b x y u e f).0 same) in
           omega (arith, le, apart)
 
       falls : (a b : List ℕ) → Uses text a b → rank (first_of text b) < rank (first_of text a)
@@ -93,9 +93,9 @@ module _ (text : List Rule) (levels : List ℕ) (are : AreLevels text levels) wh
           let x = node-starts text a b u in
           subst (λ (o : Option ℕ). rank (first_of text b) < rank o) (sym x.1) (by_node a b x.0 (first_of text b) u x.1 refl)
 
--- the numbers of components are levels
-pub are-levels : (text : List Rule) (count : ℕ) (edges : List Edge) (numbers : List ℕ) → count ≡ length (all_rules text) → edges ≡ edges_of text → length numbers ≡ count → NumbersComponents count edges numbers → AreInOrder count edges numbers → AreLevels text numbers
-are-levels text count edges numbers c e l components order = record {
+-- the numbers of the components of this graph
+pub are-components : (text : List Rule) (count : ℕ) (edges : List Edge) (numbers : List ℕ) → count ≡ length (all_rules text) → edges ≡ edges_of text → length numbers ≡ count → NumbersComponents count edges numbers → AreInOrder count edges numbers → AreComponents text numbers
+are-components text count edges numbers c e l components order = record {
   each = l ∙ c;
   components = subst (λ (n : ℕ). NumbersComponents n (edges_of text) numbers) c (subst (λ (g : List Edge). NumbersComponents count g numbers) e components);
   order = subst (λ (n : ℕ). AreInOrder n (edges_of text) numbers) c (subst (λ (g : List Edge). AreInOrder count g numbers) e order);
