@@ -3,9 +3,9 @@ use Rattle.std.proofs.Common.{◌≡◌, ℕ, suc, inl, inr, true, false, List, 
 use Rattle.std.proofs.lemmas.List.{length-append, append_cancel_left, append_cancel_right}
 use Rattle.ecd_cast.specs.declared.tree.Program.{Program}
 use Rattle.ecd_cast.specs.Lexemes.{Lexeme, Laid, IsLongest, is_lexeme}
-use Rattle.ecd_cast.specs.Spelling.{IsSpelledProgram, program_lexemes, first_line}
+use Rattle.ecd_cast.specs.Spelling.{IsSpelling, IsSpelledProgram, program_lexemes, first_line}
 use Rattle.ecd_cgrammar.specs.Reading.{Deep, taken, stuck, program_at}
-use Rattle.ecd_cgrammar.specs.Faults.{IsSpelling, Begins, NoneGoesOn, Reaches, begins_blank, IsFault, FaultAt}
+use Rattle.ecd_cgrammar.specs.Faults.{Begins, NoneGoesOn, Reaches, begins_blank, IsFault, FaultAt}
 use Rattle.ecd_cgrammar.specs.Laws.{AreLexemes}
 use Rattle.ecd_cgrammar.proofs.Readers.{ok_is}
 use Rattle.ecd_cgrammar.proofs.Sound.{good_program}

@@ -2,8 +2,8 @@
 use Rattle.std.specs.Prelude.{ℕ, ◌≡◌, true, List, [], ◌∷◌}
 use Rattle.ecd_cast.specs.declared.tree.Program.{Program}
 use Rattle.ecd_cast.specs.Lexemes.{Lexeme, Laid, is_lexeme}
-use Rattle.ecd_cast.specs.Spelling.{IsSpelledProgram, program_lexemes}
-use Rattle.ecd_cgrammar.specs.Faults.{IsSpelling, FaultAt}
+use Rattle.ecd_cast.specs.Spelling.{IsSpelling, IsSpelledProgram, program_lexemes}
+use Rattle.ecd_cgrammar.specs.Faults.{FaultAt}
 
 abbrev pub AreLexemes : List Lexeme → Type 0
 AreLexemes [] = Unit {0}

@@ -8,7 +8,7 @@ use Rattle.ecd_cast.specs.Memory.{Memory, Bytes, Event, WritesCell, writes_of, m
 use Rattle.ecd_cast.specs.Meaning.{Run, Returns, calls_of}
 use Rattle.ecd_cast.specs.Validity.{IsValid, structs_of, functions_of, function_names}
 use Rattle.ecd_compile.specs.Reader.{unit_struct, reader_params}
-use Rattle.ecd_cast.specs.Spelling.{Spells, IsSpelledProgram}
+use Rattle.ecd_cast.specs.Spelling.{IsSpelling}
 use Rattle.ecd_syntax.specs.declared.tree.Tree.{Tree}
 use Rattle.ecd_compile.specs.Schema.{IsSchema, HasCause, IsTold}
 use Rattle.ecd_compile.specs.declared.refusal.Refusal.{Refusal}
@@ -48,8 +48,7 @@ pub record IsCompiled (schema root text : List ℕ) (p : Program) : Type 0 where
   pub parsed : IsSchema schema tree
   pub sound : BreaksNone tree.rules
   pub thin : IsThin tree root number
-  pub spelled : IsSpelledProgram p
-  pub spells : Spells p text
+  pub spells : IsSpelling p text
   pub valid : IsValid p
   pub interface : HasInterface p.items
   pub reads : ReadsByte number p
