@@ -3,7 +3,7 @@ use Rattle.ecd_cast.specs.Spelling.{IsSpelling, program_lexemes, first_line}
 use Rattle.ecd_cast.specs.declared.tree.Program.{Program}
 use Rattle.ecd_cprint.specs.Layout.{Grows}
 use Rattle.ecd_cprint.proofs.Joins.{spelled}
-use Rattle.ecd_cprint.proofs.Spelled.{program_are}
+use Rattle.ecd_cast.proofs.Spelled.{program_are}
 use Rattle.ecd_cprint.proofs.print.Goals as goal
 
 pub returns : goal.returns
