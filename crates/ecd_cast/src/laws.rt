@@ -5,7 +5,7 @@ ghost use Rattle.ecd_cast.specs.Safety.{ValidCalls};
 ghost use Rattle.ecd_cast.specs.Deepest.{HasDeepestChain, HasNoLongerChain};
 ghost use Rattle.ecd_cast.specs.Stuck.{StuckPlaces};
 
-/// Items behind a function change nothing of what it does, and nothing of an item's validity.
+/// Items of other names behind a function change nothing of what it does, and items behind an item nothing of its validity.
 pub fn items_behind()
     ensures meaning { MeaningIsKept }
     ensures validity { ValidityIsKept }
