@@ -219,7 +219,7 @@ faults_from before (i ∷ is) at = item_faults before i (i ∷ is) at ++ faults_
 
 -- ---- C7: the longest chain of calls
 
--- the longest chain that begins with a function, for the functions known so far
+-- the longest or heaviest chain that begins with a function, for the functions known so far
 abbrev pub Chains : Type 0
 Chains = Name → ℕ
 
@@ -249,15 +249,19 @@ block_chain chains (s ∷ rest) = max (chain_of chains s) (block_chain chains re
 abbrev pub with_chain : Name → ℕ → Chains → Chains
 with_chain g n chains h = if bytes_eq g h then n else chains h
 
-abbrev pub longest_from : Chains → ℕ → List CItem → ℕ
-longest_from chains most [] = most
-longest_from chains most (AStructDecl s ∷ is) = longest_from chains most is
-longest_from chains most (AFunction f ∷ is) =
-    let here : ℕ = 1 + block_chain chains f.body in longest_from (with_chain f.name here chains) (max most here) is
+-- the most of any chain of calls, where each function of a chain counts by its weight
+abbrev pub heaviest_from : (Function → ℕ) → Chains → ℕ → List CItem → ℕ
+heaviest_from weight chains most [] = most
+heaviest_from weight chains most (AStructDecl s ∷ is) = heaviest_from weight chains most is
+heaviest_from weight chains most (AFunction f ∷ is) =
+    let here : ℕ = weight f + block_chain chains f.body in heaviest_from weight (with_chain f.name here chains) (max most here) is
+
+abbrev pub heaviest_of : (Function → ℕ) → List CItem → ℕ
+heaviest_of weight items = heaviest_from weight (λ g. 0) 0 items
 
 -- the longest chain of calls: 1 for functions without calls, and 0 without functions
 abbrev pub call_depth_of : List CItem → ℕ
-call_depth_of items = longest_from (λ g. 0) 0 items
+call_depth_of items = heaviest_of (λ f. 1) items
 
 -- ---- the variables of a chain of calls
 
@@ -285,16 +289,9 @@ block_declares (s ∷ rest) = declared_by s + block_declares rest
 abbrev pub variables_of : Function → ℕ
 variables_of f = length f.params + block_declares f.body
 
--- the most of any chain of calls, where each function of a chain counts by its weight
-abbrev pub heaviest_from : (Function → ℕ) → Chains → ℕ → List CItem → ℕ
-heaviest_from weight chains most [] = most
-heaviest_from weight chains most (AStructDecl s ∷ is) = heaviest_from weight chains most is
-heaviest_from weight chains most (AFunction f ∷ is) =
-    let here : ℕ = weight f + block_chain chains f.body in heaviest_from weight (with_chain f.name here chains) (max most here) is
-
 -- the most variables and parameters that the functions of one chain of calls have together
 abbrev pub spaces_of : List CItem → ℕ
-spaces_of items = heaviest_from variables_of (λ g. 0) 0 items
+spaces_of items = heaviest_of variables_of items
 
 -- ---- programs
 
