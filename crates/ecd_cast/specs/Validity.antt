@@ -107,21 +107,29 @@ known_after (If' t s ys u ns) known = known
 known_after (For' x b s body) known = known
 known_after (Return e) known = known
 
+-- the rules that a statement breaks by itself, without those inside it
+abbrev pub own_rules : Around → Known → Stmt → List ℕ
+own_rules around known (DeclNumber x e) = source_broken around known ANumber e
+own_rules around known (DeclPointer x e) = broken_as AReadPointer around.structs known e
+own_rules around known (Assign x e) = assignable (kind_in known x) ++ source_broken around known (assigned_kind (kind_in known x)) e ++ unless (not (is_among around.loops x)) 4
+own_rules around known (Store x i e) = asked AWritePointer (kind_in known x) ++ broken_as ANumber around.structs known i ++ broken_as ANumber around.structs known e
+own_rules around known (SetCell x c e) = asked_cell around.structs (kind_in known x) c ++ broken_as (member around.structs (kind_in known x) c) around.structs known e
+own_rules around known (If' t s ys u ns) = broken_as ATruth around.structs known t
+own_rules around known (For' x b s body) = asked ANumber (kind_in known b)
+own_rules around known (Return e) = broken_as ANumber around.structs known e
+
 abbrev mutual
   pub stmt_faults : Around → Known → Stmt → Place → List Fault
-  stmt_faults around known (DeclNumber x e) p = at_place p (source_broken around known ANumber e)
-  stmt_faults around known (DeclPointer x e) p = at_place p (broken_as AReadPointer around.structs known e)
-  stmt_faults around known (Assign x e) p =
-      at_place p (assignable (kind_in known x) ++ source_broken around known (assigned_kind (kind_in known x)) e ++ unless (not (is_among around.loops x)) 4)
-  stmt_faults around known (Store x i e) p =
-      at_place p (asked AWritePointer (kind_in known x) ++ broken_as ANumber around.structs known i ++ broken_as ANumber around.structs known e)
-  stmt_faults around known (SetCell x c e) p =
-      at_place p (asked_cell around.structs (kind_in known x) c ++ broken_as (member around.structs (kind_in known x) c) around.structs known e)
+  stmt_faults around known (DeclNumber x e) p = at_place p (own_rules around known (DeclNumber x e))
+  stmt_faults around known (DeclPointer x e) p = at_place p (own_rules around known (DeclPointer x e))
+  stmt_faults around known (Assign x e) p = at_place p (own_rules around known (Assign x e))
+  stmt_faults around known (Store x i e) p = at_place p (own_rules around known (Store x i e))
+  stmt_faults around known (SetCell x c e) p = at_place p (own_rules around known (SetCell x c e))
   stmt_faults around known (If' t s ys u ns) p =
-      at_place p (broken_as ATruth around.structs known t) ++ row_faults around known ys (shifted p 1) ++ row_faults around known ns (shifted p (1 + count_in ys))
+      at_place p (own_rules around known (If' t s ys u ns)) ++ row_faults around known ys (shifted p 1) ++ row_faults around known ns (shifted p (1 + count_in ys))
   stmt_faults around known (For' x b s body) p =
-      at_place p (asked ANumber (kind_in known b)) ++ row_faults (in_loop around x b) ((x, ANumber) ∷ known) body (shifted p 1)
-  stmt_faults around known (Return e) p = at_place p (broken_as ANumber around.structs known e)
+      at_place p (own_rules around known (For' x b s body)) ++ row_faults (in_loop around x b) ((x, ANumber) ∷ known) body (shifted p 1)
+  stmt_faults around known (Return e) p = at_place p (own_rules around known (Return e))
 
   pub row_faults : {n : _} → Around → Known → Row_of-Stmt n → Place → List Fault
   row_faults around known end_of-Stmt p = []
