@@ -1,5 +1,5 @@
 -- The rules C1 to C7, and where a program breaks them.
-use Rattle.std.specs.Prelude.{ℕ, ◌+◌, ◌≡◌, ◌<◌, ◌⊎◌, Bool, true, false, not, ◌&&◌, if◌then◌else◌, List, [], ◌∷◌, ◌++◌, flat_map, map, Contains, Option, Some, None, bytes_eq, nat_eq, length, max}
+use Rattle.std.specs.Prelude.{ℕ, ◌+◌, ◌≡◌, ◌<◌, ◌⊎◌, Bool, true, false, not, ◌&&◌, if◌then◌else◌, List, [], ◌∷◌, ◌++◌, flat_map, map, Contains, Option, Some, None, bytes_eq, nat_eq, nat_lt, length, max}
 use Rattle.std.specs.List.{list_any}
 use Rattle.ecd_cast.specs.declared.tree.Expr.{Expr}
 use Rattle.ecd_cast.specs.declared.tree.Source.{Source}
@@ -314,12 +314,12 @@ pub record IsValid (p : Program) : Type 0 where
   pub depth : p.depth ≡ call_depth_of p.items
 
 -- the order of faults: by item, then statement, then rule
-abbrev pub IsInOrder : Fault → Fault → Type 0
-IsInOrder a b = (a.item < b.item) ⊎ ((a.item ≡ b.item) × ((a.statement < b.statement) ⊎ ((a.statement ≡ b.statement) × (a.rule < b.rule))))
+abbrev pub is_in_order : Fault → Fault → Bool
+is_in_order a b = if nat_eq a.item b.item then (if nat_eq a.statement b.statement then nat_lt a.rule b.rule else nat_lt a.statement b.statement) else nat_lt a.item b.item
 
 -- C7 comes behind all others
 abbrev pub IsBefore : Fault → Fault → Type 0
-IsBefore a b = (a.rule < 7) × ((b.rule ≡ 7) ⊎ ((b.rule < 7) × IsInOrder a b))
+IsBefore a b = (a.rule < 7) × ((b.rule ≡ 7) ⊎ ((b.rule < 7) × (is_in_order a b ≡ true)))
 
 -- the fault that is named: the first broken rule
 pub record IsFirstFault (p : Program) (f : Fault) : Type 0 where
