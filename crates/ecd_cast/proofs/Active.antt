@@ -13,7 +13,7 @@ use Rattle.ecd_cast.specs.Memory.{Name, Memory, Block, Bytes, Cells, Value, Num,
 use Rattle.std.specs.Prelude.{Option, Some, None, slice_get, nat_lt, length, ◌%◌}
 use Rattle.ecd_cast.specs.Expressions.{Outcome, Gives, Fails, Scopes, lookup, given, value_of}
 use Rattle.ecd_cast.specs.Meaning.{Run, Falls, Returns, Stuck, events_of, doing, and_then, fall, Place, shifted, stuck, with, on_number, on_truth, declare, assign, leave, Calls, with_args, from_call, from_source, write, store_in, store, set_cell, Code, scoped, turns, count_of, count_in, does, does_row, block, ended, called, no_calls, with_item, calls_from, calls_of, frame_of}
-use Rattle.ecd_cast.specs.Validity.{Chains, source_chain, chain_of, chain_in, block_chain, with_chain, longest_from, call_depth_of}
+use Rattle.ecd_cast.specs.Validity.{Chains, source_chain, chain_of, chain_in, block_chain, with_chain, heaviest_from, call_depth_of}
 use Rattle.ecd_cast.specs.Laws.{ActiveCalls}
 
 -- events that end with as many active calls as before, and never d more
@@ -216,7 +216,7 @@ module _ (calls : Calls) (chains : Chains) (known : (g : Name) (vs : List Value)
       by_test false = known g vs m
 
 from_low : (calls : Calls) (chains : Chains) (at_ most : ℕ) (items : List CItem) → ((g : Name) (vs : List Value) (m : Memory) → Bounded (chains g) (calls g vs m)) → ((g : Name) → chains g ≤ most) →
-    (g : Name) (vs : List Value) (m : Memory) → Bounded (longest_from chains most items) (calls_from calls at_ items g vs m)
+    (g : Name) (vs : List Value) (m : Memory) → Bounded (heaviest_from (λ f. 1) chains most items) (calls_from calls at_ items g vs m)
 from_low calls chains at_ most [] known le g vs m = bounded_more (chains g) most _ (le g) (known g vs m)
 from_low calls chains at_ most (AStruct s ∷ is) known le g vs m = from_low (with_item calls at_ (AStruct s)) chains (at_ + 1) most is known le g vs m
 from_low calls chains at_ most (AFunction f ∷ is) known le g vs m =

@@ -12,14 +12,14 @@ use Rattle.std.specs.Cmp.Lexicographic.{slice_cmp}
 use Rattle.std.specs.declared.vec.Vec.{Vec}
 use Rattle.ecd_cast.specs.declared.chains.Reach.{Reach}
 use Rattle.ecd_cast.specs.Memory.{Name}
-use Rattle.ecd_cast.specs.Validity.{IsValidAfter, faults_from, item_faults, block_chain, call_depth_of, variables_of, heaviest_from}
+use Rattle.ecd_cast.specs.Validity.{IsValidAfter, faults_from, item_faults, block_chain, variables_of, heaviest_of}
 use Rattle.ecd_cast.specs.Chains.{chains_behind, under, calls_in, variables_in}
 use Rattle.ecd_cast.specs.Spelling.{IsSpelledItem, AreSpelledItems}
 use Rattle.std.proofs.Common.{get_or, take}
 use Rattle.std.proofs.lemmas.List.{take_more}
 use Rattle.ecd_cast.specs.Built.{IsBuilt, Tallied}
 use Rattle.ecd_cast.proofs.Kept.{items_grow}
-use Rattle.ecd_cast.proofs.Heaviest.{depth_is_heaviest, heaviest_with_struct, heaviest_with_function, chains_with_struct, chains_with_function}
+use Rattle.ecd_cast.proofs.Heaviest.{heaviest_with_struct, heaviest_with_function, chains_with_struct, chains_with_function}
 use Rattle.ecd_cast.proofs.Names.{under-put}
 
 spelled_grow : (items : List CItem) (item : CItem) → AreSpelledItems items → IsSpelledItem item → AreSpelledItems (items ++ item ∷ [])
@@ -33,11 +33,8 @@ sound_grow items item h k =
 
 -- ---- a struct
 
-heaviest_same : (weight : Function → ℕ) (items : List CItem) (s : StructDecl) → heaviest_from weight (λ g. 0) 0 items ≡ heaviest_from weight (λ g. 0) 0 (items ++ AStructDecl s ∷ [])
+heaviest_same : (weight : Function → ℕ) (items : List CItem) (s : StructDecl) → heaviest_of weight items ≡ heaviest_of weight (items ++ AStructDecl s ∷ [])
 heaviest_same weight items s = sym (heaviest_with_struct weight (λ g. 0) 0 items s)
-
-depth_same : (items : List CItem) (s : StructDecl) → call_depth_of items ≡ call_depth_of (items ++ AStructDecl s ∷ [])
-depth_same items s = depth_is_heaviest (λ g. 0) 0 items ∙ (heaviest_same (λ f. 1) items s ∙ sym (depth_is_heaviest (λ g. 0) 0 (items ++ AStructDecl s ∷ [])))
 
 chains_same : (weight : Function → ℕ) (items : List CItem) (s : StructDecl) (g : Name) → chains_behind weight (λ h. 0) items g ≡ chains_behind weight (λ h. 0) (items ++ AStructDecl s ∷ []) g
 chains_same weight items s g = λ i. sym (chains_with_struct weight (λ h. 0) items s) i g
@@ -50,7 +47,7 @@ built_struct items new s depth spaces reaches b v p count e =
       sound = sound_grow items (AStructDecl s) b.sound v;
       spelled = spelled_grow items (AStructDecl s) b.spelled p;
       counted = few;
-      depth_is = b.depth_is ∙ depth_same items s;
+      depth_is = b.depth_is ∙ heaviest_same (λ f. 1) items s;
       spaces_are = b.spaces_are ∙ heaviest_same variables_of items s;
       reached = record {
         calls_are = λ g. b.reached.calls_are g ∙ chains_same (λ f. 1) items s g;
@@ -77,7 +74,7 @@ module _ {A : Type 0} (read : Option Reach → ℕ) (weight : Function → ℕ) 
       by_test false here = known g
 
   grown_heaviest : (most : ℕ) → ((g : Name) → read (under old g) ≡ chains_behind weight (λ h. 0) items g) → read (Some r) ≡ weight f + block_chain (λ g. read (under old g)) f.body →
-      most ≡ heaviest_from weight (λ g. 0) 0 items → max most (read (Some r)) ≡ heaviest_from weight (λ g. 0) 0 (items ++ AFunction f ∷ [])
+      most ≡ heaviest_of weight items → max most (read (Some r)) ≡ heaviest_of weight (items ++ AFunction f ∷ [])
   grown_heaviest most known e h =
       let chains : (λ (l : Name). read (under old l)) ≡ chains_behind weight (λ l. 0) items = λ i l. known l i in
       let here : read (Some r) ≡ weight f + block_chain (chains_behind weight (λ l. 0) items) f.body = e ∙ (λ i. weight f + block_chain (chains i) f.body) in
@@ -94,7 +91,7 @@ built_function items new f depth spaces d s old reaches k r b v p count e named 
       sound = sound_grow items (AFunction f) b.sound v;
       spelled = spelled_grow items (AFunction f) b.spelled p;
       counted = few;
-      depth_is = deep ∙ (grown_heaviest calls_in (λ g. 1) items f old reaches k r depth b.reached.calls_are calls (b.depth_is ∙ depth_is_heaviest (λ g. 0) 0 items) ∙ sym (depth_is_heaviest (λ g. 0) 0 (items ++ AFunction f ∷ [])));
+      depth_is = deep ∙ grown_heaviest calls_in (λ g. 1) items f old reaches k r depth b.reached.calls_are calls b.depth_is;
       spaces_are = wide ∙ grown_heaviest variables_in variables_of items f old reaches k r spaces b.reached.variables_are variables b.spaces_are;
       reached = record {
         calls_are = grown_chains calls_in (λ g. 1) items f old reaches k r b.reached.calls_are named h calls;
@@ -116,7 +113,7 @@ tallied_struct items s reaches most b = record {
     calls_are = λ g. b.reached.calls_are g ∙ chains_same (λ f. 1) items s g;
     variables_are = λ g. b.reached.variables_are g ∙ chains_same variables_of items s g;
   };
-  calls_are = b.calls_are ∙ depth_same items s;
+  calls_are = b.calls_are ∙ heaviest_same (λ f. 1) items s;
   variables_are = b.variables_are ∙ heaviest_same variables_of items s;
 }
 
@@ -129,7 +126,7 @@ tallied_function items f old reaches k r most next b named h calls variables dee
     calls_are = grown_chains calls_in (λ g. 1) items f old reaches k r b.reached.calls_are named h calls;
     variables_are = grown_chains variables_in variables_of items f old reaches k r b.reached.variables_are named h variables;
   };
-  calls_are = deep ∙ (grown_heaviest calls_in (λ g. 1) items f old reaches k r most.calls b.reached.calls_are calls (b.calls_are ∙ depth_is_heaviest (λ g. 0) 0 items) ∙ sym (depth_is_heaviest (λ g. 0) 0 (items ++ AFunction f ∷ [])));
+  calls_are = deep ∙ grown_heaviest calls_in (λ g. 1) items f old reaches k r most.calls b.reached.calls_are calls b.calls_are;
   variables_are = wide ∙ grown_heaviest variables_in variables_of items f old reaches k r most.variables b.reached.variables_are variables b.variables_are;
 }
 

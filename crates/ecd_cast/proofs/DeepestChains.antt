@@ -1,4 +1,4 @@
--- A chain of calls as long as the call depth.
+-- A chain of calls as heavy as the heaviest, and one as long as the call depth.
 use Rattle.std.proofs.Common.{◌≡◌, ℕ, zero, suc, ◌+◌, ◌<◌, List, [], ◌∷◌, length, refl, sym, ap, subst, ◌∙◌, arith, Bool, true, false, ◌⊎◌, inl, inr}
 use Rattle.std.specs.Prelude.{max, if◌then◌else◌, ◌||◌, bytes_eq, Some, slice_get}
 use Rattle.std.proofs.lemmas.Slice.Eq.{bytes_eq-Decides}
@@ -10,8 +10,8 @@ use Rattle.ecd_cast.specs.declared.tree.Function.{Function}
 use Rattle.ecd_cast.specs.declared.tree.CItem.{CItem}
 use Rattle.ecd_cast.specs.declared.tree.CItem.TheVariants.{Struct as AStruct, Function as AFunction}
 use Rattle.ecd_cast.specs.Memory.{Name}
-use Rattle.ecd_cast.specs.Validity.{Chains, source_chain, chain_of, chain_in, block_chain, with_chain, longest_from}
-use Rattle.ecd_cast.specs.Deepest.{source_calls, calls, row_calls, block_calls, IsFunction, IsChain, HasDeepestChain}
+use Rattle.ecd_cast.specs.Validity.{Chains, source_chain, chain_of, chain_in, block_chain, with_chain, heaviest_from}
+use Rattle.ecd_cast.specs.Deepest.{source_calls, calls, row_calls, block_calls, IsFunction, IsChain, weight_in, chain_weight, ChainOf, HasHeaviestChain, HasDeepestChain}
 
 -- ---- tests
 
@@ -75,8 +75,8 @@ module _ (chains : Chains) where
 
 -- ---- chains of the items before a number
 
-module _ (items : List CItem) where
-  -- a chain of so many functions, whose first has this name and stands before this number
+module _ (weight : Function → ℕ) (items : List CItem) where
+  -- a chain of this weight, whose first has this name and stands before this number
   record Begun (g : Name) (at_ n : ℕ) : Type 0 where
     pub number : ℕ
     pub function : Function
@@ -85,12 +85,7 @@ module _ (items : List CItem) where
     pub stands : IsFunction items number function
     pub named : function.name ≡ g
     pub is : IsChain items (number ∷ rest)
-    pub long : length (number ∷ rest) ≡ n
-
-  record Long (n : ℕ) : Type 0 where
-    pub chain : List ℕ
-    pub is : IsChain items chain
-    pub long : length chain ≡ n
+    pub weighs : chain_weight weight items (number ∷ rest) ≡ n
 
   -- the items from a number on are these
   record Stands (at_ : ℕ) (rest : List CItem) : Type 0 where
@@ -105,16 +100,15 @@ module _ (items : List CItem) where
   stands_here at_ f is h = let same : at_ + 0 ≡ at_ = omega arith in subst (λ (k : ℕ). slice_get items k ≡ Some (AFunction f)) same (h.each 0 f refl)
 
   later : (g : Name) (at_ n : ℕ) → Begun g at_ n → Begun g (at_ + 1) n
-  later g at_ n b = record { number = b.number; function = b.function; rest = b.rest; before = let h = b.before in omega (arith, h); stands = b.stands; named = b.named; is = b.is; long = b.long }
+  later g at_ n b = record { number = b.number; function = b.function; rest = b.rest; before = let h = b.before in omega (arith, h); stands = b.stands; named = b.named; is = b.is; weighs = b.weighs }
 
   module _ (chains : Chains) (at_ : ℕ) (known : (g : Name) (n : ℕ) → chains g ≡ suc n → Begun g at_ (suc n)) where
     -- the chain that begins with one more function
-    own : (f : Function) → IsFunction items at_ f → (d : ℕ) → block_chain chains f.body ≡ d → Begun f.name (at_ + 1) (1 + d)
-    own f e zero h = record { number = at_; function = f; rest = []; before = omega arith; stands = e; named = refl; is = (f, e); long = refl }
+    own : (f : Function) → IsFunction items at_ f → (d : ℕ) → block_chain chains f.body ≡ d → Begun f.name (at_ + 1) (weight f + d)
+    own f e zero h = record { number = at_; function = f; rest = []; before = omega arith; stands = e; named = refl; is = (f, e); weighs = ap (λ o. weight_in weight o + 0) e }
     own f e (suc d) h =
         let call = block_heaviest chains f.body d h in
         let b = known call.name d call.long in
-        let two : suc (suc d) ≡ 1 + suc d = omega arith in
         let calls_it : block_calls f.body b.function.name ≡ true = subst (λ (x : Name). block_calls f.body x ≡ true) (sym b.named) call.is_called in
         record {
           number = at_;
@@ -124,35 +118,48 @@ module _ (items : List CItem) where
           stands = e;
           named = refl;
           is = (record { caller = f; callee = b.function; stands = e; called = b.stands; before = b.before; by_name = calls_it }, b.is);
-          long = ap suc b.long ∙ two;
+          weighs = λ i. weight_in weight (e i) + b.weighs i;
         }
 
-    known_then : (f : Function) → IsFunction items at_ f → (g : Name) (n : ℕ) → with_chain f.name (1 + block_chain chains f.body) chains g ≡ suc n → Begun g (at_ + 1) (suc n)
+    known_then : (f : Function) → IsFunction items at_ f → (g : Name) (n : ℕ) → with_chain f.name (weight f + block_chain chains f.body) chains g ≡ suc n → Begun g (at_ + 1) (suc n)
     known_then f e g n = by_test (bytes_eq f.name g) refl
       where
-        by_test : (b : Bool) → bytes_eq f.name g ≡ b → (if b then 1 + block_chain chains f.body else chains g) ≡ suc n → Begun g (at_ + 1) (suc n)
+        by_test : (b : Bool) → bytes_eq f.name g ≡ b → (if b then weight f + block_chain chains f.body else chains g) ≡ suc n → Begun g (at_ + 1) (suc n)
         by_test true t h =
             let same : f.name ≡ g = (bytes_eq-Decides f.name g).0 t in
             subst (λ (x : Name). Begun x (at_ + 1) (suc n)) same (subst (λ (k : ℕ). Begun f.name (at_ + 1) k) h (own f e (block_chain chains f.body) refl))
         by_test false t h = later g at_ (suc n) (known g n h)
 
-    most_then : (f : Function) (most : ℕ) → IsFunction items at_ f → Long most → Long (max most (1 + block_chain chains f.body))
-    most_then f most e long =
+    most_then : (f : Function) (most : ℕ) → IsFunction items at_ f → ChainOf weight items most → ChainOf weight items (max most (weight f + block_chain chains f.body))
+    most_then f most e found =
         let b = own f e (block_chain chains f.body) refl in
-        elim (max_is most (1 + block_chain chains f.body)) [
-          | inl l ↦ record { chain = long.chain; is = long.is; long = long.long ∙ sym l }
-          | inr r ↦ record { chain = b.number ∷ b.rest; is = b.is; long = b.long ∙ sym r }
+        elim (max_is most (weight f + block_chain chains f.body)) [
+          | inl l ↦ record { chain = found.chain; is = found.is; weighs = found.weighs ∙ sym l }
+          | inr r ↦ record { chain = b.number ∷ b.rest; is = b.is; weighs = b.weighs ∙ sym r }
         ]
 
-  from_items : (chains : Chains) (at_ most : ℕ) (rest : List CItem) → Stands at_ rest → ((g : Name) (n : ℕ) → chains g ≡ suc n → Begun g at_ (suc n)) → Long most → Long (longest_from chains most rest)
-  from_items chains at_ most [] h known long = long
-  from_items chains at_ most (AStruct s ∷ is) h known long = from_items chains (at_ + 1) most is (stands_behind at_ (AStruct s) is h) (λ g n e. later g at_ (suc n) (known g n e)) long
-  from_items chains at_ most (AFunction f ∷ is) h known long =
+  from_items : (chains : Chains) (at_ most : ℕ) (rest : List CItem) → Stands at_ rest → ((g : Name) (n : ℕ) → chains g ≡ suc n → Begun g at_ (suc n)) → ChainOf weight items most → ChainOf weight items (heaviest_from weight chains most rest)
+  from_items chains at_ most [] h known found = found
+  from_items chains at_ most (AStruct s ∷ is) h known found = from_items chains (at_ + 1) most is (stands_behind at_ (AStruct s) is h) (λ g n e. later g at_ (suc n) (known g n e)) found
+  from_items chains at_ most (AFunction f ∷ is) h known found =
       let e = stands_here at_ f is h in
-      from_items (with_chain f.name (1 + block_chain chains f.body) chains) (at_ + 1) (max most (1 + block_chain chains f.body)) is (stands_behind at_ (AFunction f) is h) (known_then chains at_ known f e) (most_then chains at_ known f most e long)
+      from_items (with_chain f.name (weight f + block_chain chains f.body) chains) (at_ + 1) (max most (weight f + block_chain chains f.body)) is (stands_behind at_ (AFunction f) is h) (known_then chains at_ known f e) (most_then chains at_ known f most e found)
+
+pub heaviest_chain : HasHeaviestChain
+heaviest_chain weight items =
+    let all : Stands weight items 0 items = record { each = λ j f h. let same : j ≡ 0 + j = omega arith in subst (λ (k : ℕ). slice_get items k ≡ Some (AFunction f)) same h } in
+    from_items weight items (λ g. 0) 0 0 items all (λ g n e. absurd (omega (arith, e))) (record { chain = []; is = tt; weighs = refl })
+
+-- where each function weighs 1, a chain weighs as much as it is long
+pub weighs_its_length : (items : List CItem) (chain : List ℕ) → IsChain items chain → chain_weight (λ f. 1) items chain ≡ length chain
+weighs_its_length items [] c = refl
+weighs_its_length items (n ∷ []) c = let one : weight_in (λ f. 1) (slice_get items n) ≡ 1 = ap (weight_in (λ f. 1)) c.1 in omega (arith, one)
+weighs_its_length items (n ∷ (k ∷ rest)) c =
+    let one : weight_in (λ f. 1) (slice_get items n) ≡ 1 = ap (weight_in (λ f. 1)) c.0.stands in
+    let more = weighs_its_length items (k ∷ rest) c.1 in
+    omega (arith, one, more)
 
 pub deepest_chain : HasDeepestChain
 deepest_chain items =
-    let all : Stands items 0 items = record { each = λ j f h. let same : j ≡ 0 + j = omega arith in subst (λ (k : ℕ). slice_get items k ≡ Some (AFunction f)) same h } in
-    let found = from_items items (λ g. 0) 0 0 items all (λ g n e. absurd (omega (arith, e))) (record { chain = []; is = tt; long = refl }) in
-    record { chain = found.chain; is = found.is; deep = found.long }
+    let found = heaviest_chain (λ f. 1) items in
+    record { chain = found.chain; is = found.is; deep = sym (weighs_its_length items found.chain found.is) ∙ found.weighs }

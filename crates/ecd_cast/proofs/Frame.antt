@@ -5,11 +5,11 @@ use Rattle.ecd_cast.specs.declared.tree.Program.{Program}
 use Rattle.ecd_cast.specs.Memory.{Name, Cell, Event, Step, Enters, Leaves, WritesByte, WritesCell, Memory, Block, Bytes, Cells, after, event, with_byte_in, with_cell_in, steps_of, first_steps, most_active}
 use Rattle.std.proofs.Common.{◌⊎◌, ⊎_elim, ◌<◌}
 use Rattle.ecd_cast.specs.Laws.{Spares, Steps, FirstFault}
-use Rattle.ecd_cast.proofs.Verdicts.{some_first}
+use Rattle.ecd_cast.proofs.Verdicts.{Precedes, before_so, some_first}
 use Rattle.std.specs.Prelude.{nat_eq}
 use Rattle.std.proofs.lemmas.Bool.{eq-eqb}
 use Rattle.std.proofs.Common.{true}
-use Rattle.ecd_cast.specs.Validity.{Fault, IsValid, IsFirstFault, IsBefore, IsInOrder, faults_of, call_depth_of}
+use Rattle.ecd_cast.specs.Validity.{Fault, IsValid, IsFirstFault, IsBefore, faults_of, call_depth_of}
 
 get_set_other : {X : Type 0} (xs : List X) (k b : ℕ) (x : X) → k ≢ b → slice_get (slice_set xs k x) b ≡ slice_get xs b
 get_set_other [] k b x h = refl
@@ -81,13 +81,13 @@ no_fault p f v h = none (faults_of p) f (clean p v) h.broken
 
 -- no two faults stand before each other
 not_both : (a b : Fault) → IsBefore a b → IsBefore b a → ⊥
-not_both a b h k = ⊎_elim (λ (last : b.rule ≡ 7). absurd (omega arith)) (λ x. ⊎_elim (λ (last : a.rule ≡ 7). absurd (omega arith)) (λ y. ordered x.1 y.1) k.1) h.1
+not_both a b h k = ⊎_elim (λ (last : b.rule ≡ 7). absurd (omega arith)) (λ x. ⊎_elim (λ (last : a.rule ≡ 7). absurd (omega arith)) (λ y. ordered (before_so a b x.1) (before_so b a y.1)) k.1) h.1
   where
     statements : (a.statement < b.statement) ⊎ ((a.statement ≡ b.statement) × (a.rule < b.rule)) → (b.statement < a.statement) ⊎ ((b.statement ≡ a.statement) × (b.rule < a.rule)) → ⊥
     statements x y = ⊎_elim (λ (lt : a.statement < b.statement). ⊎_elim (λ (gt : b.statement < a.statement). absurd (omega arith)) (λ e. let same = e.0 in absurd (omega arith)) y)
         (λ e. let same = e.0 in ⊎_elim (λ (gt : b.statement < a.statement). absurd (omega arith)) (λ f. let lt = e.1 in let gt = f.1 in absurd (omega arith)) y) x
 
-    ordered : IsInOrder a b → IsInOrder b a → ⊥
+    ordered : Precedes a b → Precedes b a → ⊥
     ordered x y = ⊎_elim (λ (lt : a.item < b.item). ⊎_elim (λ (gt : b.item < a.item). absurd (omega arith)) (λ e. let same = e.0 in absurd (omega arith)) y)
         (λ e. let same = e.0 in ⊎_elim (λ (gt : b.item < a.item). absurd (omega arith)) (λ f. statements e.1 f.1) y) x
 

@@ -11,7 +11,7 @@ use Rattle.ecd_cast.specs.declared.tree.Function.{Function}
 use Rattle.ecd_cast.specs.declared.tree.CItem.{CItem}
 use Rattle.ecd_cast.specs.declared.tree.CItem.TheVariants.{Struct as AStructDecl, Function as AFunction}
 use Rattle.ecd_cast.specs.Memory.{Name}
-use Rattle.ecd_cast.specs.Validity.{Chains, chain_of, chain_in, block_chain, declared_by, declared_in, block_declares, with_chain, longest_from, heaviest_from}
+use Rattle.ecd_cast.specs.Validity.{Chains, chain_of, chain_in, block_chain, declared_by, declared_in, block_declares, with_chain, heaviest_from}
 use Rattle.ecd_cast.specs.Chains.{chains_behind}
 
 -- ---- blocks
@@ -70,12 +70,6 @@ take_whole (x ∷ xs) zero h = absurd (omega arith)
 take_whole (x ∷ xs) (suc n) h = ap (λ l. x ∷ l) (take_whole xs n (omega arith))
 
 -- ---- one more item
-
--- the depth counts each function once
-pub depth_is_heaviest : (chains : Chains) (most : ℕ) (items : List CItem) → longest_from chains most items ≡ heaviest_from (λ f. 1) chains most items
-depth_is_heaviest chains most [] = refl
-depth_is_heaviest chains most (AStructDecl s ∷ is) = depth_is_heaviest chains most is
-depth_is_heaviest chains most (AFunction f ∷ is) = depth_is_heaviest (with_chain f.name (1 + block_chain chains f.body) chains) (max most (1 + block_chain chains f.body)) is
 
 module _ (weight : Function → ℕ) where
   pub heaviest_with_struct : (chains : Chains) (most : ℕ) (items : List CItem) (s : StructDecl) → heaviest_from weight chains most (items ++ AStructDecl s ∷ []) ≡ heaviest_from weight chains most items

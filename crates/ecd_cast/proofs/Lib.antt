@@ -31,3 +31,4 @@ pub mod SoundFiles
 pub mod StuckPlaces
 pub mod DeepestChains
 pub mod LongestChains
+pub mod Spelled

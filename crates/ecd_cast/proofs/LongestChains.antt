@@ -1,4 +1,4 @@
--- No chain of calls of a valid program is longer than its call depth.
+-- No chain of calls of a valid program is heavier than the heaviest, nor longer than its call depth.
 use Rattle.std.proofs.Common.{◌≡◌, ℕ, zero, suc, ◌+◌, ◌<◌, ◌≤◌, List, [], ◌∷◌, ◌++◌, length, refl, sym, ap, subst, ◌∙◌, arith, append_assoc, append-nil, Bool, true, false, ◌⊎◌, inl, inr}
 use Rattle.std.specs.Prelude.{max, if◌then◌else◌, ◌||◌, not, map, flat_map, bytes_eq, Some, slice_get}
 use Rattle.std.proofs.lemmas.Slice.Eq.{bytes_eq-Decides}
@@ -13,9 +13,10 @@ use Rattle.ecd_cast.specs.declared.tree.CItem.TheVariants.{Struct as AStruct, Fu
 use Rattle.ecd_cast.specs.Memory.{Name}
 use Rattle.ecd_cast.specs.Meaning.{Place}
 use Rattle.ecd_cast.specs.Kinds.{unless}
-use Rattle.ecd_cast.specs.Validity.{Around, Chains, at_place, is_among, struct_names, structs_of, functions_of, function_names, block_returns, twice, head_names, named_in, params_known, param_broken, block_faults, item_faults, faults_from, source_chain, chain_of, chain_in, block_chain, with_chain, longest_from}
-use Rattle.ecd_cast.specs.Deepest.{source_calls, calls, row_calls, block_calls, IsFunction, IsChain, HasNoLongerChain}
+use Rattle.ecd_cast.specs.Validity.{Around, Chains, at_place, is_among, struct_names, structs_of, functions_of, function_names, block_returns, twice, head_names, named_in, params_known, param_broken, block_faults, item_faults, faults_from, source_chain, chain_of, chain_in, block_chain, with_chain, heaviest_from, call_depth_of}
+use Rattle.ecd_cast.specs.Deepest.{source_calls, calls, row_calls, block_calls, IsFunction, IsChain, weight_in, chain_weight, HasNoHeavierChain, HasNoLongerChain}
 use Rattle.ecd_cast.proofs.Kept.{front_nil, back_nil}
+use Rattle.ecd_cast.proofs.DeepestChains.{weighs_its_length}
 use Rattle.ecd_cast.proofs.Sound.{no_rule}
 use Rattle.ecd_cast.proofs.SoundRuns.{no_fault}
 
@@ -124,13 +125,13 @@ module _ (chains : Chains) (g : Name) where
 
 -- ---- chains of the items before a number
 
-module _ (all : List CItem) where
-  -- no chain that begins before the number is longer than what is known of its function, nor than the most
+module _ (weight : Function → ℕ) (all : List CItem) where
+  -- no chain that begins before the number is heavier than what is known of its function, nor than the most
   record Below (chains : Chains) (most at_ : ℕ) : Type 0 where
-    pub each : (n : ℕ) (f : Function) (rest : List ℕ) → n < at_ → IsFunction all n f → IsChain all (n ∷ rest) → (length (n ∷ rest) ≤ chains f.name) × (length (n ∷ rest) ≤ most)
+    pub each : (n : ℕ) (f : Function) (rest : List ℕ) → n < at_ → IsFunction all n f → IsChain all (n ∷ rest) → (chain_weight weight all (n ∷ rest) ≤ chains f.name) × (chain_weight weight all (n ∷ rest) ≤ most)
 
-  record NoLonger (most : ℕ) : Type 0 where
-    pub each : (n : ℕ) (f : Function) (rest : List ℕ) → IsFunction all n f → IsChain all (n ∷ rest) → length (n ∷ rest) ≤ most
+  record NoHeavier (most : ℕ) : Type 0 where
+    pub each : (n : ℕ) (f : Function) (rest : List ℕ) → IsFunction all n f → IsChain all (n ∷ rest) → chain_weight weight all (n ∷ rest) ≤ most
 
   behind_struct : (chains : Chains) (most at_ : ℕ) (s : _) → slice_get all at_ ≡ Some (AStruct s) → Below chains most at_ → Below chains most (at_ + 1)
   behind_struct chains most at_ s here b = record {
@@ -141,9 +142,12 @@ module _ (all : List CItem) where
   }
 
   module _ (chains : Chains) (most at_ : ℕ) (f : Function) (here : slice_get all at_ ≡ Some (AFunction f)) (b : Below chains most at_) where
+    weighs : (n : ℕ) → n ≡ at_ → weight_in weight (slice_get all n) ≡ weight f
+    weighs n e = ap (λ k. weight_in weight (slice_get all k)) e ∙ ap (weight_in weight) here
+
     -- a chain that begins with the function
-    own : (n : ℕ) (rest : List ℕ) → n ≡ at_ → IsChain all (n ∷ rest) → length (n ∷ rest) ≤ 1 + block_chain chains f.body
-    own n [] e c = omega arith
+    own : (n : ℕ) (rest : List ℕ) → n ≡ at_ → IsChain all (n ∷ rest) → chain_weight weight all (n ∷ rest) ≤ weight f + block_chain chains f.body
+    own n [] e c = let w = weighs n e in omega (arith, w)
     own n (k ∷ more) e c =
         let call = c.0 in
         let there : slice_get all at_ ≡ Some (AFunction call.caller) = subst (λ (j : ℕ). slice_get all j ≡ Some (AFunction call.caller)) e call.stands in
@@ -152,28 +156,29 @@ module _ (all : List CItem) where
         let tail = (b.each k call.callee more earlier call.called c.1).0 in
         let by_name : block_calls f.body call.callee.name ≡ true = subst (λ (h : Function). block_calls h.body call.callee.name ≡ true) same call.by_name in
         let le = block_below chains call.callee.name f.body by_name in
-        omega (arith, tail, le)
+        let w = weighs n e in
+        omega (arith, w, tail, le)
 
-    behind_function : ((n : ℕ) (g : Function) → n < at_ → IsFunction all n g → bytes_eq f.name g.name ≡ false) → Below (with_chain f.name (1 + block_chain chains f.body) chains) (max most (1 + block_chain chains f.body)) (at_ + 1)
+    behind_function : ((n : ℕ) (g : Function) → n < at_ → IsFunction all n g → bytes_eq f.name g.name ≡ false) → Below (with_chain f.name (weight f + block_chain chains f.body) chains) (max most (weight f + block_chain chains f.body)) (at_ + 1)
     behind_function fresh = record { each = λ n g rest h e c. by_place n g rest (below_or n at_ h) e c }
       where
-        known_as : (g : Function) (t : Bool) (m : ℕ) → bytes_eq f.name g.name ≡ t → m ≤ (if t then 1 + block_chain chains f.body else chains g.name) → m ≤ with_chain f.name (1 + block_chain chains f.body) chains g.name
-        known_as g t m e le = subst (λ (x : Bool). m ≤ (if x then 1 + block_chain chains f.body else chains g.name)) (sym e) le
+        known_as : (g : Function) (t : Bool) (m : ℕ) → bytes_eq f.name g.name ≡ t → m ≤ (if t then weight f + block_chain chains f.body else chains g.name) → m ≤ with_chain f.name (weight f + block_chain chains f.body) chains g.name
+        known_as g t m e le = subst (λ (x : Bool). m ≤ (if x then weight f + block_chain chains f.body else chains g.name)) (sym e) le
 
         by_place : (n : ℕ) (g : Function) (rest : List ℕ) → (n < at_) ⊎ (n ≡ at_) → IsFunction all n g → IsChain all (n ∷ rest) →
-            (length (n ∷ rest) ≤ with_chain f.name (1 + block_chain chains f.body) chains g.name) × (length (n ∷ rest) ≤ max most (1 + block_chain chains f.body))
+            (chain_weight weight all (n ∷ rest) ≤ with_chain f.name (weight f + block_chain chains f.body) chains g.name) × (chain_weight weight all (n ∷ rest) ≤ max most (weight f + block_chain chains f.body))
         by_place n g rest (inl l) e c =
             let two = b.each n g rest l e c in
             let most_of = two.1 in
-            (known_as g false (length (n ∷ rest)) (fresh n g l e) two.0, omega (arith, most_of))
+            (known_as g false (chain_weight weight all (n ∷ rest)) (fresh n g l e) two.0, omega (arith, most_of))
         by_place n g rest (inr q) e c =
             let there : slice_get all at_ ≡ Some (AFunction g) = subst (λ (k : ℕ). slice_get all k ≡ Some (AFunction g)) q e in
             let same : f ≡ g = one_function f g (sym here ∙ there) in
             let le = own n rest q c in
             let named : bytes_eq f.name g.name ≡ true = subst (λ (h : Function). bytes_eq f.name h.name ≡ true) same (same_bytes f.name) in
-            (known_as g true (length (n ∷ rest)) named le, omega (arith, le))
+            (known_as g true (chain_weight weight all (n ∷ rest)) named le, omega (arith, le))
 
-  from_items : (before items : List CItem) (at_ : ℕ) (chains : Chains) (most : ℕ) → before ++ items ≡ all → length before ≡ at_ → faults_from before items at_ ≡ [] → Below chains most at_ → NoLonger (longest_from chains most items)
+  from_items : (before items : List CItem) (at_ : ℕ) (chains : Chains) (most : ℕ) → before ++ items ≡ all → length before ≡ at_ → faults_from before items at_ ≡ [] → Below chains most at_ → NoHeavier (heaviest_from weight chains most items)
   from_items before [] at_ chains most whole long faults b =
       let same : before ≡ all = sym (append-nil before) ∙ whole in
       let ends : length all ≡ at_ = ap length (sym same) ∙ long in
@@ -190,16 +195,19 @@ module _ (all : List CItem) where
       let there : slice_get (before ++ AFunction f ∷ is) n ≡ Some (AFunction g) = subst (λ (k : List CItem). slice_get k n ≡ Some (AFunction g)) (sym whole) e in
       let stands : slice_get before n ≡ Some (AFunction g) = sym (get_front before (AFunction f ∷ is) n within) ∙ there in
       other_way g.name f.name (other_name before n g f.name stands own_one)) in
-      from_items (before ++ AFunction f ∷ []) is (at_ + 1) (with_chain f.name (1 + block_chain chains f.body) chains) (max most (1 + block_chain chains f.body)) (append_assoc before (AFunction f ∷ []) is ∙ whole)
+      from_items (before ++ AFunction f ∷ []) is (at_ + 1) (with_chain f.name (weight f + block_chain chains f.body) chains) (max most (weight f + block_chain chains f.body)) (append_assoc before (AFunction f ∷ []) is ∙ whole)
       (length_more before (AFunction f) ∙ ap (λ k. k + 1) long) (back_nil (item_faults before (AFunction f) (AFunction f ∷ is) at_) (faults_from (before ++ AFunction f ∷ []) is (at_ + 1)) faults) (behind_function chains most at_ f here b fresh)
 
 first_is : (items : List CItem) (n : ℕ) (rest : List ℕ) → IsChain items (n ∷ rest) → (f : Function) × IsFunction items n f
 first_is items n [] c = c
 first_is items n (k ∷ more) c = (c.0.caller, c.0.stands)
 
-pub no_longer_chain : HasNoLongerChain
-no_longer_chain p [] valid c = omega arith
-no_longer_chain p (n ∷ rest) valid c =
+pub no_heavier_chain : HasNoHeavierChain
+no_heavier_chain weight p [] valid c = omega arith
+no_heavier_chain weight p (n ∷ rest) valid c =
     let first = first_is p.items n rest c in
-    let none : Below p.items (λ g. 0) 0 0 = record { each = λ k f more h e d. absurd (omega (arith, h)) } in
-    (from_items p.items [] p.items 0 (λ g. 0) 0 refl refl valid.sound none).each n first.0 rest first.1 c
+    let none : Below weight p.items (λ g. 0) 0 0 = record { each = λ k f more h e d. absurd (omega (arith, h)) } in
+    (from_items weight p.items [] p.items 0 (λ g. 0) 0 refl refl valid.sound none).each n first.0 rest first.1 c
+
+pub no_longer_chain : HasNoLongerChain
+no_longer_chain p chain valid c = subst (λ (k : ℕ). k ≤ call_depth_of p.items) (weighs_its_length p.items chain c) (no_heavier_chain (λ f. 1) p chain valid c)

@@ -10,9 +10,9 @@ use Rattle.ecd_cast.specs.Memory.{Name}
 use Rattle.ecd_cast.specs.Meaning.{Place, shifted, count_of, count_in}
 use Rattle.ecd_cast.specs.Laws.{count_all}
 use Rattle.ecd_cast.specs.Kinds.{ANumber, ATruth, Known, kind_in, broken_as, asked}
-use Rattle.ecd_cast.specs.Validity.{Around, in_loop, at_place, known_after, stmt_faults, row_faults, block_faults}
+use Rattle.ecd_cast.specs.Validity.{Around, in_loop, at_place, known_after, own_rules, stmt_faults, row_faults, block_faults}
 use Rattle.ecd_cast.specs.First.{Sees}
-use Rattle.ecd_cast.specs.Surroundings.{known_behind, own_rules}
+use Rattle.ecd_cast.specs.Surroundings.{known_behind}
 use Rattle.ecd_cast.proofs.Layers.{count-hidden}
 use Rattle.ecd_cast.proofs.Sees.{sees_then, sees_same}
 

@@ -1,35 +1,46 @@
 -- The first fault of a program.
 use Rattle.std.proofs.Common.{◌≡◌, ℕ, zero, suc, ◌<◌, ◌≤◌, List, [], ◌∷◌, length, get_or, refl, ap, sym, ◌∙◌, subst, arith, Bool, true, false, ◌⊎◌, inl, inr, ⊎_elim}
 use Rattle.std.specs.Prelude.{Option, Some, None, if◌then◌else◌, Contains, map, nat_eq, nat_lt}
-use Rattle.std.proofs.lemmas.Bool.{eqb-true, eqb-false, ltb-true, ltb-false}
+use Rattle.std.proofs.lemmas.Bool.{eqb-true, eqb-false, eq-eqb, ltb-true, ltb-false, lt-ltb}
 use Rattle.std.proofs.lemmas.List.Elements.{Contains-append_left, Contains-append_right, Contains-append_cases}
 use Rattle.ecd_cast.specs.declared.tree.Program.{Program}
 use Rattle.ecd_cast.specs.Kinds.{unless}
-use Rattle.ecd_cast.specs.Validity.{Fault, IsValid, IsInOrder, IsFirstFault, faults_from, faults_of, depth_fault, call_depth_of}
-use Rattle.ecd_cast.specs.First.{is_before, first_of}
+use Rattle.ecd_cast.specs.Validity.{Fault, IsValid, is_in_order, IsFirstFault, faults_from, faults_of, depth_fault, call_depth_of}
+use Rattle.ecd_cast.specs.First.{first_of}
 use Rattle.ecd_cast.proofs.SmallRules.{file_small, small_each}
+
+-- how one fault stands before another
+abbrev pub Precedes : Fault → Fault → Type 0
+Precedes a b = (a.item < b.item) ⊎ ((a.item ≡ b.item) × ((a.statement < b.statement) ⊎ ((a.statement ≡ b.statement) × (a.rule < b.rule))))
 
 -- f is g or stands before it
 abbrev Reaches : Fault → Fault → Type 0
-Reaches f g = (g ≡ f) ⊎ IsInOrder f g
+Reaches f g = (g ≡ f) ⊎ Precedes f g
 
 same_fault : (a b : Fault) → a.rule ≡ b.rule → a.item ≡ b.item → a.statement ≡ b.statement → a ≡ b
 same_fault a b r i s = λ j. record { rule = r j; item = i j; statement = s j }
 
 -- ---- the order
 
-before_so : (a b : Fault) → is_before a b ≡ true → IsInOrder a b
+pub not_equal : (a b : ℕ) → (a ≡ b → ⊥) → nat_eq a b ≡ false
+not_equal a b apart = by_test (nat_eq a b) refl
+  where
+    by_test : (t : Bool) → nat_eq a b ≡ t → t ≡ false
+    by_test false h = refl
+    by_test true h = absurd (apart (eqb-true a b h))
+
+pub before_so : (a b : Fault) → is_in_order a b ≡ true → Precedes a b
 before_so a b e = by_item (nat_eq a.item b.item) refl
   where
-    by_statement : a.item ≡ b.item → (t : Bool) → nat_eq a.statement b.statement ≡ t → (if t then nat_lt a.rule b.rule else nat_lt a.statement b.statement) ≡ true → IsInOrder a b
+    by_statement : a.item ≡ b.item → (t : Bool) → nat_eq a.statement b.statement ≡ t → (if t then nat_lt a.rule b.rule else nat_lt a.statement b.statement) ≡ true → Precedes a b
     by_statement i true h k = inr (i, inr (eqb-true a.statement b.statement h, ltb-true a.rule b.rule k))
     by_statement i false h k = inr (i, inl (ltb-true a.statement b.statement k))
 
-    by_item : (t : Bool) → nat_eq a.item b.item ≡ t → IsInOrder a b
+    by_item : (t : Bool) → nat_eq a.item b.item ≡ t → Precedes a b
     by_item true h = by_statement (eqb-true a.item b.item h) (nat_eq a.statement b.statement) refl (rw h at e)
     by_item false h = inl (ltb-true a.item b.item (rw h at e))
 
-not_before_so : (a b : Fault) → is_before a b ≡ false → Reaches b a
+not_before_so : (a b : Fault) → is_in_order a b ≡ false → Reaches b a
 not_before_so a b e = by_item (nat_eq a.item b.item) refl
   where
     by_rule : a.item ≡ b.item → a.statement ≡ b.statement → b.rule ≤ a.rule → (t : Bool) → nat_eq a.rule b.rule ≡ t → Reaches b a
@@ -52,7 +63,12 @@ not_before_so a b e = by_item (nat_eq a.item b.item) refl
         let lt : b.item < a.item = omega (arith, le, apart) in
         inr (inl lt)
 
-order_then : (a b c : Fault) → IsInOrder a b → IsInOrder b c → IsInOrder a c
+so_before : (a b : Fault) → Precedes a b → is_in_order a b ≡ true
+so_before a b (inl lt) = rw (not_equal a.item b.item (λ e. absurd (omega (arith, lt, e))), lt-ltb a.item b.item lt)
+so_before a b (inr (i, inl lt)) = rw (eq-eqb a.item b.item i, not_equal a.statement b.statement (λ e. absurd (omega (arith, lt, e))), lt-ltb a.statement b.statement lt)
+so_before a b (inr (i, inr (s, lt))) = rw (eq-eqb a.item b.item i, eq-eqb a.statement b.statement s, lt-ltb a.rule b.rule lt)
+
+order_then : (a b c : Fault) → Precedes a b → Precedes b c → Precedes a c
 order_then a b c h k = ⊎_elim
     (λ (lt : a.item < b.item). ⊎_elim (λ (more : b.item < c.item). let all : a.item < c.item = omega arith in inl all) (λ x. let same = x.0 in let all : a.item < c.item = omega (arith, same) in inl all) k)
     (λ x. ⊎_elim
@@ -85,9 +101,9 @@ AllReached f (g ∷ gs) = Reaches f g × AllReached f gs
 
 some_stays : (g : Fault) (fs : List Fault) → first_of (Some g) fs ≡ None → ⊥
 some_stays g [] e = cc
-some_stays g (f ∷ fs) e = by_test (is_before f g) refl (some_stays f fs) (some_stays g fs)
+some_stays g (f ∷ fs) e = by_test (is_in_order f g) refl (some_stays f fs) (some_stays g fs)
   where
-    by_test : (b : Bool) → is_before f g ≡ b → (first_of (Some f) fs ≡ None → ⊥) → (first_of (Some g) fs ≡ None → ⊥) → ⊥
+    by_test : (b : Bool) → is_in_order f g ≡ b → (first_of (Some f) fs ≡ None → ⊥) → (first_of (Some g) fs ≡ None → ⊥) → ⊥
     by_test true t h k = h (rw t at e)
     by_test false t h k = k (rw t at e)
 
@@ -111,9 +127,9 @@ one_more x g f fs c = ⊎_elim
 
 least : (f g : Fault) (fs : List Fault) → first_of (Some g) fs ≡ Some f → IsLeast f g fs
 least f g [] e = let same : g ≡ f = cc in record { below = inl same; all = tt; among = subst (λ (x : Fault). Contains (x ∷ []) f) (sym same) (first_is f []) }
-least f g (x ∷ fs) e = by_test (is_before x g) refl (least f x fs) (least f g fs)
+least f g (x ∷ fs) e = by_test (is_in_order x g) refl (least f x fs) (least f g fs)
   where
-    by_test : (b : Bool) → is_before x g ≡ b → (first_of (Some x) fs ≡ Some f → IsLeast f x fs) → (first_of (Some g) fs ≡ Some f → IsLeast f g fs) → IsLeast f g (x ∷ fs)
+    by_test : (b : Bool) → is_in_order x g ≡ b → (first_of (Some x) fs ≡ Some f → IsLeast f x fs) → (first_of (Some g) fs ≡ Some f → IsLeast f g fs) → IsLeast f g (x ∷ fs)
     by_test true t h k =
         let r = h (rw t at e) in
         record { below = reaches_then f x g r.below (inr (before_so x g t)); all = (r.below, r.all); among = Contains-append_right (g ∷ []) (x ∷ fs) f r.among }
@@ -150,7 +166,7 @@ first_of_items p f e =
     record {
       broken = Contains-append_left (faults_from [] p.items 0) (depth_fault p) f found.0;
       first = λ g c. ⊎_elim
-          (λ h. ⊎_elim (λ (same : g ≡ f). inl same) (λ lt. inr (here, inr (small_each (faults_from [] p.items 0) g small h, lt))) (found.1 g h))
+          (λ h. ⊎_elim (λ (same : g ≡ f). inl same) (λ lt. inr (here, inr (small_each (faults_from [] p.items 0) g small h, so_before f g lt))) (found.1 g h))
           (λ h. inr (here, inl (seven (nat_eq p.depth (call_depth_of p.items)) g h)))
           (Contains-append_cases (faults_from [] p.items 0) (depth_fault p) g c);
     }
@@ -187,10 +203,3 @@ some_first p bad = by_first (first_of None (faults_from [] p.items 0)) refl
     by_first : (o : Option Fault) → first_of None (faults_from [] p.items 0) ≡ o → (f : Fault) × IsFirstFault p f
     by_first (Some f) e = (f, first_of_items p f e)
     by_first None e = by_depth (none_empty (faults_from [] p.items 0) e) (nat_eq p.depth (call_depth_of p.items)) refl
-
-pub not_equal : (a b : ℕ) → (a ≡ b → ⊥) → nat_eq a b ≡ false
-not_equal a b apart = by_test (nat_eq a b) refl
-  where
-    by_test : (t : Bool) → nat_eq a b ≡ t → t ≡ false
-    by_test false h = refl
-    by_test true h = absurd (apart (eqb-true a b h))

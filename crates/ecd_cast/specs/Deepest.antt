@@ -1,15 +1,15 @@
 -- Chains of calls, by the numbers of their functions.
-use Rattle.std.specs.Prelude.{ℕ, ◌≡◌, ◌<◌, ◌≤◌, Bool, true, false, ◌||◌, List, [], ◌∷◌, Some, slice_get, length, bytes_eq}
+use Rattle.std.specs.Prelude.{ℕ, ◌+◌, ◌≡◌, ◌<◌, ◌≤◌, Bool, true, false, ◌||◌, List, [], ◌∷◌, Option, Some, None, slice_get, length, bytes_eq}
 use Rattle.ecd_cast.specs.declared.tree.Source.{Source}
 use Rattle.ecd_cast.specs.declared.tree.Source.TheVariants.{Value as FromValue, Call as FromCall}
 use Rattle.ecd_cast.specs.declared.tree.Stmt.{Stmt, Row_of-Stmt, end_of-Stmt, more_of-Stmt}
 use Rattle.ecd_cast.specs.declared.tree.Stmt.TheVariants.{Number as DeclNumber, Pointer as DeclPointer, Assign, Store, SetCell, If', For', Return}
 use Rattle.ecd_cast.specs.declared.tree.Function.{Function}
 use Rattle.ecd_cast.specs.declared.tree.CItem.{CItem}
-use Rattle.ecd_cast.specs.declared.tree.CItem.TheVariants.{Function as AFunction}
+use Rattle.ecd_cast.specs.declared.tree.CItem.TheVariants.{Struct as AStruct, Function as AFunction}
 use Rattle.ecd_cast.specs.Memory.{Name}
 use Rattle.ecd_cast.specs.declared.tree.Program.{Program}
-use Rattle.ecd_cast.specs.Validity.{IsValid, call_depth_of}
+use Rattle.ecd_cast.specs.Validity.{IsValid, heaviest_of, call_depth_of}
 
 -- ---- whether a function of this name is called
 
@@ -56,6 +56,31 @@ abbrev pub IsChain : List CItem → List ℕ → Type 0
 IsChain items [] = Unit {0}
 IsChain items (n ∷ []) = (f : Function) × IsFunction items n f
 IsChain items (n ∷ (k ∷ rest)) = CallsEarlier items n k × IsChain items (k ∷ rest)
+
+-- the weight of the function that has a number
+abbrev pub weight_in : (Function → ℕ) → Option CItem → ℕ
+weight_in weight (Some (AFunction f)) = weight f
+weight_in weight (Some (AStruct s)) = 0
+weight_in weight None = 0
+
+-- the weights of a chain's functions together
+abbrev pub chain_weight : (Function → ℕ) → List CItem → List ℕ → ℕ
+chain_weight weight items [] = 0
+chain_weight weight items (n ∷ rest) = weight_in weight (slice_get items n) + chain_weight weight items rest
+
+-- a chain of calls of this weight
+pub record ChainOf (weight : Function → ℕ) (items : List CItem) (n : ℕ) : Type 0 where
+  pub chain : List ℕ
+  pub is : IsChain items chain
+  pub weighs : chain_weight weight items chain ≡ n
+
+-- whatever the weights of functions are, every program has a chain of the weight that is the most
+abbrev pub HasHeaviestChain : Type 0
+HasHeaviestChain = (weight : Function → ℕ) (items : List CItem) → ChainOf weight items (heaviest_of weight items)
+
+-- in a valid program none is heavier
+abbrev pub HasNoHeavierChain : Type 0
+HasNoHeavierChain = (weight : Function → ℕ) (p : Program) (chain : List ℕ) → IsValid p → IsChain p.items chain → chain_weight weight p.items chain ≤ heaviest_of weight p.items
 
 -- a chain of calls as long as the call depth
 pub record DeepestChain (items : List CItem) : Type 0 where

@@ -1,18 +1,14 @@
 -- The first of the faults that are met, in any order.
-use Rattle.std.specs.Prelude.{ℕ, ◌≡◌, Bool, if◌then◌else◌, List, [], ◌∷◌, Option, Some, None, nat_eq, nat_lt}
+use Rattle.std.specs.Prelude.{ℕ, ◌≡◌, if◌then◌else◌, List, [], ◌∷◌, Option, Some, None}
 use Rattle.ecd_cast.specs.declared.first.Spot.{Spot}
 use Rattle.ecd_cast.specs.declared.first.Broken.{Broken}
 use Rattle.ecd_cast.specs.declared.first.First.{First}
 use Rattle.ecd_cast.specs.Meaning.{Place}
-use Rattle.ecd_cast.specs.Validity.{Fault, at_place}
-
--- by item, then statement, then rule
-abbrev pub is_before : Fault → Fault → Bool
-is_before a b = if nat_eq a.item b.item then (if nat_eq a.statement b.statement then nat_lt a.rule b.rule else nat_lt a.statement b.statement) else nat_lt a.item b.item
+use Rattle.ecd_cast.specs.Validity.{Fault, at_place, is_in_order}
 
 abbrev pub earlier : Option Fault → Fault → Option Fault
 earlier None f = Some f
-earlier (Some g) f = if is_before f g then Some f else Some g
+earlier (Some g) f = if is_in_order f g then Some f else Some g
 
 -- the first of one that may be there already and of these
 abbrev pub first_of : Option Fault → List Fault → Option Fault

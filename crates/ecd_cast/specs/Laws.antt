@@ -20,7 +20,7 @@ abbrev pub count_all : List Stmt → ℕ
 count_all [] = 0
 count_all (s ∷ rest) = count_of s + count_all rest
 
--- items behind a function change nothing of what it does
+-- items of other names behind a function change nothing of what it does
 abbrev pub MeaningIsKept : Type 0
 MeaningIsKept = (items more : List CItem) (g : Name) (vs : List Value) (m : Memory) → IsNew g more → calls_of (items ++ more) g vs m ≡ calls_of items g vs m
 

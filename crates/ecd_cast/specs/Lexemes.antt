@@ -67,6 +67,11 @@ is_sign (a ∷ b ∷ c ∷ cs) = false
 abbrev pub is_lexeme : Lexeme → Bool
 is_lexeme w = is_word w || is_digits w || is_literal w || is_sign w
 
+-- each of them is a lexeme
+abbrev pub AreLexemes : List Lexeme → Type 0
+AreLexemes [] = Unit {0}
+AreLexemes (l ∷ ls) = (is_lexeme l ≡ true) × AreLexemes ls
+
 -- no longer lexeme stands at the place
 abbrev pub IsLongest : Lexeme → List ℕ → Type 0
 IsLongest l rest = (more after : List ℕ) → rest ≡ more ++ after → 0 < length more → is_lexeme (l ++ more) ≡ true → ⊥

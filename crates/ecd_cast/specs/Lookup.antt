@@ -31,6 +31,6 @@ pub record IsReaderAt (items : List CItem) (at : ℕ) : Type 0 where
   pub takes : AreReaderParams function.params
 
 -- whether an item is a function of this name
-abbrev pub is_named : CItem → Name → Bool
-is_named (AStructDecl s) g = false
-is_named (AFunction f) g = bytes_eq f.name g
+abbrev pub is_function_of : CItem → Name → Bool
+is_function_of (AStructDecl s) g = false
+is_function_of (AFunction f) g = bytes_eq f.name g

@@ -192,3 +192,8 @@ AreSpelledItems (i ∷ is) = IsSpelledItem i × AreSpelledItems is
 pub record IsSpelledProgram (p : Program) : Type 0 where
   pub fits : p.depth < 2 ^ 32
   pub items_are : AreSpelledItems p.items
+
+-- the text spells the program, which has a spelling
+pub record IsSpelling (program : Program) (text : List ℕ) : Type 0 where
+  pub spelled : IsSpelledProgram program
+  pub spells : Spells program text

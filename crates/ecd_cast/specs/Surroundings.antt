@@ -7,7 +7,6 @@ use Rattle.ecd_cast.specs.declared.tree.CItem.TheVariants.{Struct as AStructDecl
 use Rattle.ecd_cast.specs.declared.tree.StructDecl.{StructDecl}
 use Rattle.ecd_cast.specs.declared.tree.Param.{Param}
 use Rattle.ecd_cast.specs.declared.tree.Stmt.{Stmt}
-use Rattle.ecd_cast.specs.declared.tree.Stmt.TheVariants.{Number as DeclNumber, Pointer as DeclPointer, Assign, Store, SetCell, If', For', Return}
 use Rattle.ecd_cast.specs.declared.directory.Directory.{Directory}
 use Rattle.ecd_cast.specs.declared.directory.Surroundings.{Surroundings}
 use Rattle.ecd_cast.specs.declared.directory.Found.{Found}
@@ -15,8 +14,8 @@ use Rattle.ecd_cast.specs.declared.tree.Function.{Function}
 use Rattle.ecd_cast.specs.declared.tree.CellKind.{CellKind}
 use Rattle.ecd_cast.specs.declared.tree.CellKind.TheVariants.{Number as NumberCell, Pointer as PointerCell}
 use Rattle.ecd_cast.specs.Memory.{Name}
-use Rattle.ecd_cast.specs.Kinds.{Kind, ANumber, ATruth, AReadPointer, AWritePointer, Known, takes, param_kind, unless, kind_in, member, cell_among, broken_as, asked, asked_cell}
-use Rattle.ecd_cast.specs.Validity.{Around, structs_of, functions_of, function_named, known_after, source_broken, assignable, assigned_kind, is_among, param_broken, struct_names, function_names, block_returns}
+use Rattle.ecd_cast.specs.Kinds.{Kind, ANumber, AReadPointer, Known, takes, param_kind, unless, cell_among}
+use Rattle.ecd_cast.specs.Validity.{Around, structs_of, functions_of, function_named, known_after, is_among, param_broken, struct_names, function_names, block_returns}
 use Rattle.ecd_cast.specs.Chains.{under}
 use Rattle.ecd_cast.specs.Variables.{names_of}
 
@@ -120,17 +119,6 @@ takes_at None k = false
 abbrev pub known_behind : List Stmt → Known → Known
 known_behind [] known = known
 known_behind (s ∷ rest) known = known_behind rest (known_after s known)
-
--- the rules that a statement breaks by itself, without those inside it
-abbrev pub own_rules : Around → Known → Stmt → List ℕ
-own_rules around known (DeclNumber x e) = source_broken around known ANumber e
-own_rules around known (DeclPointer x e) = broken_as AReadPointer around.structs known e
-own_rules around known (Assign x e) = assignable (kind_in known x) ++ source_broken around known (assigned_kind (kind_in known x)) e ++ unless (not (is_among around.loops x)) 4
-own_rules around known (Store x i e) = asked AWritePointer (kind_in known x) ++ broken_as ANumber around.structs known i ++ broken_as ANumber around.structs known e
-own_rules around known (SetCell x c e) = asked_cell around.structs (kind_in known x) c ++ broken_as (member around.structs (kind_in known x) c) around.structs known e
-own_rules around known (If' t s ys u ns) = broken_as ATruth around.structs known t
-own_rules around known (For' x b s body) = asked ANumber (kind_in known b)
-own_rules around known (Return e) = broken_as ANumber around.structs known e
 
 -- the rules that the head of a function breaks, but for its names
 abbrev pub head_rules : List CItem → Function → List ℕ

@@ -1,5 +1,5 @@
 -- The rules C1 to C7, and where a program breaks them.
-use Rattle.std.specs.Prelude.{ℕ, ◌+◌, ◌≡◌, ◌<◌, ◌⊎◌, Bool, true, false, not, ◌&&◌, if◌then◌else◌, List, [], ◌∷◌, ◌++◌, flat_map, map, Contains, Option, Some, None, bytes_eq, nat_eq, length, max}
+use Rattle.std.specs.Prelude.{ℕ, ◌+◌, ◌≡◌, ◌<◌, ◌⊎◌, Bool, true, false, not, ◌&&◌, if◌then◌else◌, List, [], ◌∷◌, ◌++◌, flat_map, map, Contains, Option, Some, None, bytes_eq, nat_eq, nat_lt, length, max}
 use Rattle.std.specs.List.{list_any}
 use Rattle.ecd_cast.specs.declared.tree.Expr.{Expr}
 use Rattle.ecd_cast.specs.declared.tree.Source.{Source}
@@ -107,21 +107,29 @@ known_after (If' t s ys u ns) known = known
 known_after (For' x b s body) known = known
 known_after (Return e) known = known
 
+-- the rules that a statement breaks by itself, without those inside it
+abbrev pub own_rules : Around → Known → Stmt → List ℕ
+own_rules around known (DeclNumber x e) = source_broken around known ANumber e
+own_rules around known (DeclPointer x e) = broken_as AReadPointer around.structs known e
+own_rules around known (Assign x e) = assignable (kind_in known x) ++ source_broken around known (assigned_kind (kind_in known x)) e ++ unless (not (is_among around.loops x)) 4
+own_rules around known (Store x i e) = asked AWritePointer (kind_in known x) ++ broken_as ANumber around.structs known i ++ broken_as ANumber around.structs known e
+own_rules around known (SetCell x c e) = asked_cell around.structs (kind_in known x) c ++ broken_as (member around.structs (kind_in known x) c) around.structs known e
+own_rules around known (If' t s ys u ns) = broken_as ATruth around.structs known t
+own_rules around known (For' x b s body) = asked ANumber (kind_in known b)
+own_rules around known (Return e) = broken_as ANumber around.structs known e
+
 abbrev mutual
   pub stmt_faults : Around → Known → Stmt → Place → List Fault
-  stmt_faults around known (DeclNumber x e) p = at_place p (source_broken around known ANumber e)
-  stmt_faults around known (DeclPointer x e) p = at_place p (broken_as AReadPointer around.structs known e)
-  stmt_faults around known (Assign x e) p =
-      at_place p (assignable (kind_in known x) ++ source_broken around known (assigned_kind (kind_in known x)) e ++ unless (not (is_among around.loops x)) 4)
-  stmt_faults around known (Store x i e) p =
-      at_place p (asked AWritePointer (kind_in known x) ++ broken_as ANumber around.structs known i ++ broken_as ANumber around.structs known e)
-  stmt_faults around known (SetCell x c e) p =
-      at_place p (asked_cell around.structs (kind_in known x) c ++ broken_as (member around.structs (kind_in known x) c) around.structs known e)
+  stmt_faults around known (DeclNumber x e) p = at_place p (own_rules around known (DeclNumber x e))
+  stmt_faults around known (DeclPointer x e) p = at_place p (own_rules around known (DeclPointer x e))
+  stmt_faults around known (Assign x e) p = at_place p (own_rules around known (Assign x e))
+  stmt_faults around known (Store x i e) p = at_place p (own_rules around known (Store x i e))
+  stmt_faults around known (SetCell x c e) p = at_place p (own_rules around known (SetCell x c e))
   stmt_faults around known (If' t s ys u ns) p =
-      at_place p (broken_as ATruth around.structs known t) ++ row_faults around known ys (shifted p 1) ++ row_faults around known ns (shifted p (1 + count_in ys))
+      at_place p (own_rules around known (If' t s ys u ns)) ++ row_faults around known ys (shifted p 1) ++ row_faults around known ns (shifted p (1 + count_in ys))
   stmt_faults around known (For' x b s body) p =
-      at_place p (asked ANumber (kind_in known b)) ++ row_faults (in_loop around x b) ((x, ANumber) ∷ known) body (shifted p 1)
-  stmt_faults around known (Return e) p = at_place p (broken_as ANumber around.structs known e)
+      at_place p (own_rules around known (For' x b s body)) ++ row_faults (in_loop around x b) ((x, ANumber) ∷ known) body (shifted p 1)
+  stmt_faults around known (Return e) p = at_place p (own_rules around known (Return e))
 
   pub row_faults : {n : _} → Around → Known → Row_of-Stmt n → Place → List Fault
   row_faults around known end_of-Stmt p = []
@@ -219,7 +227,7 @@ faults_from before (i ∷ is) at = item_faults before i (i ∷ is) at ++ faults_
 
 -- ---- C7: the longest chain of calls
 
--- the longest chain that begins with a function, for the functions known so far
+-- the longest or heaviest chain that begins with a function, for the functions known so far
 abbrev pub Chains : Type 0
 Chains = Name → ℕ
 
@@ -249,15 +257,19 @@ block_chain chains (s ∷ rest) = max (chain_of chains s) (block_chain chains re
 abbrev pub with_chain : Name → ℕ → Chains → Chains
 with_chain g n chains h = if bytes_eq g h then n else chains h
 
-abbrev pub longest_from : Chains → ℕ → List CItem → ℕ
-longest_from chains most [] = most
-longest_from chains most (AStructDecl s ∷ is) = longest_from chains most is
-longest_from chains most (AFunction f ∷ is) =
-    let here : ℕ = 1 + block_chain chains f.body in longest_from (with_chain f.name here chains) (max most here) is
+-- the most of any chain of calls, where each function of a chain counts by its weight
+abbrev pub heaviest_from : (Function → ℕ) → Chains → ℕ → List CItem → ℕ
+heaviest_from weight chains most [] = most
+heaviest_from weight chains most (AStructDecl s ∷ is) = heaviest_from weight chains most is
+heaviest_from weight chains most (AFunction f ∷ is) =
+    let here : ℕ = weight f + block_chain chains f.body in heaviest_from weight (with_chain f.name here chains) (max most here) is
+
+abbrev pub heaviest_of : (Function → ℕ) → List CItem → ℕ
+heaviest_of weight items = heaviest_from weight (λ g. 0) 0 items
 
 -- the longest chain of calls: 1 for functions without calls, and 0 without functions
 abbrev pub call_depth_of : List CItem → ℕ
-call_depth_of items = longest_from (λ g. 0) 0 items
+call_depth_of items = heaviest_of (λ f. 1) items
 
 -- ---- the variables of a chain of calls
 
@@ -285,16 +297,9 @@ block_declares (s ∷ rest) = declared_by s + block_declares rest
 abbrev pub variables_of : Function → ℕ
 variables_of f = length f.params + block_declares f.body
 
--- the most of any chain of calls, where each function of a chain counts by its weight
-abbrev pub heaviest_from : (Function → ℕ) → Chains → ℕ → List CItem → ℕ
-heaviest_from weight chains most [] = most
-heaviest_from weight chains most (AStructDecl s ∷ is) = heaviest_from weight chains most is
-heaviest_from weight chains most (AFunction f ∷ is) =
-    let here : ℕ = weight f + block_chain chains f.body in heaviest_from weight (with_chain f.name here chains) (max most here) is
-
 -- the most variables and parameters that the functions of one chain of calls have together
 abbrev pub spaces_of : List CItem → ℕ
-spaces_of items = heaviest_from variables_of (λ g. 0) 0 items
+spaces_of items = heaviest_of variables_of items
 
 -- ---- programs
 
@@ -309,12 +314,12 @@ pub record IsValid (p : Program) : Type 0 where
   pub depth : p.depth ≡ call_depth_of p.items
 
 -- the order of faults: by item, then statement, then rule
-abbrev pub IsInOrder : Fault → Fault → Type 0
-IsInOrder a b = (a.item < b.item) ⊎ ((a.item ≡ b.item) × ((a.statement < b.statement) ⊎ ((a.statement ≡ b.statement) × (a.rule < b.rule))))
+abbrev pub is_in_order : Fault → Fault → Bool
+is_in_order a b = if nat_eq a.item b.item then (if nat_eq a.statement b.statement then nat_lt a.rule b.rule else nat_lt a.statement b.statement) else nat_lt a.item b.item
 
 -- C7 comes behind all others
 abbrev pub IsBefore : Fault → Fault → Type 0
-IsBefore a b = (a.rule < 7) × ((b.rule ≡ 7) ⊎ ((b.rule < 7) × IsInOrder a b))
+IsBefore a b = (a.rule < 7) × ((b.rule ≡ 7) ⊎ ((b.rule < 7) × (is_in_order a b ≡ true)))
 
 -- the fault that is named: the first broken rule
 pub record IsFirstFault (p : Program) (f : Fault) : Type 0 where

@@ -5,7 +5,7 @@ ghost use Rattle.ecd_cast.specs.Validity.{IsValid, IsValidAfter, call_depth_of, 
 ghost use Rattle.ecd_cast.specs.Spelling.{IsSpelledProgram, IsSpelledItem};
 ghost use Rattle.ecd_cast.specs.Kept.{IsNew};
 ghost use Rattle.ecd_cast.specs.Built.{IsFile};
-ghost use Rattle.ecd_cast.specs.Lookup.{IsFunctionAt, IsReaderAt, AreReaderParams, is_named};
+ghost use Rattle.ecd_cast.specs.Lookup.{IsFunctionAt, IsReaderAt, AreReaderParams, is_function_of};
 ghost use Rattle.ecd_cast.specs.declared.tree.CItem.TheVariants.{Function as AFunction};
 
 use crate::chains::{Reach, Reaches, function_reach};
@@ -102,7 +102,7 @@ fn function_at(items: &[CItem], name: &[u8]) -> Option<u32>
 }
 
 fn is_function_named(item: &CItem, name: &[u8]) -> bool
-    ensures { result ≡ is_named item.now name.now }
+    ensures { result ≡ is_function_of item.now name.now }
 {
     match item {
         CItem::Struct(_) => false,

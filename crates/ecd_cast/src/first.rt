@@ -2,7 +2,8 @@
 
 ghost use Rattle.std.specs.Prelude.{◌≡◌, [], ◌∷◌};
 ghost use Rattle.ecd_cast.specs.Kinds.{unless};
-ghost use Rattle.ecd_cast.specs.First.{is_before, fault_as, place_as, Finds};
+ghost use Rattle.ecd_cast.specs.First.{fault_as, place_as, Finds};
+ghost use Rattle.ecd_cast.specs.Validity.{is_in_order};
 
 /// Where a statement stands: its item, and its number there. 0 is the item's head.
 #[derive(Clone, Copy, Debug)]
@@ -21,7 +22,7 @@ pub(crate) struct Broken {
 impl Broken {
     /// By item, then statement, then rule.
     fn comes_before(self, other: Broken) -> bool
-        ensures { result ≡ is_before (fault_as self) (fault_as other) }
+        ensures { result ≡ is_in_order (fault_as self) (fault_as other) }
     {
         if self.spot.item != other.spot.item {
             self.spot.item < other.spot.item

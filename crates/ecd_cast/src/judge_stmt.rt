@@ -5,9 +5,9 @@ ghost use Rattle.ecd_cast.specs.declared.tree.Stmt.TheVariants.{Assign as AnAssi
 ghost use Rattle.ecd_cast.specs.Meaning.{count_of};
 ghost use Rattle.ecd_cast.specs.Laws.{count_all};
 ghost use Rattle.ecd_cast.specs.Kinds.{ANumber};
-ghost use Rattle.ecd_cast.specs.Validity.{stmt_faults, block_faults, known_after, assigned_kind, assignable};
+ghost use Rattle.ecd_cast.specs.Validity.{own_rules, stmt_faults, block_faults, known_after, assigned_kind, assignable};
 ghost use Rattle.ecd_cast.specs.First.{Sees, Finds, place_as};
-ghost use Rattle.ecd_cast.specs.Surroundings.{Surrounds, around_as, own_rules};
+ghost use Rattle.ecd_cast.specs.Surroundings.{Surrounds, around_as};
 ghost use Rattle.ecd_cast.specs.Variables.{kind_as, kind_if};
 
 use crate::directory::Surroundings;

@@ -2,10 +2,10 @@
 
 ghost use Rattle.ecd_cast.specs.Laws.{MeaningIsKept, ValidityIsKept, FirstFault, Sequence, SequenceReturns, LoopFalls, LoopReturns, Choice, Call, CallDeclares, Repetition, OtherBlocks, WritesMakeMemory, ActiveCalls, Steps};
 ghost use Rattle.ecd_cast.specs.Safety.{ValidCalls};
-ghost use Rattle.ecd_cast.specs.Deepest.{HasDeepestChain, HasNoLongerChain};
+ghost use Rattle.ecd_cast.specs.Deepest.{HasDeepestChain, HasNoLongerChain, HasHeaviestChain, HasNoHeavierChain};
 ghost use Rattle.ecd_cast.specs.Stuck.{StuckPlaces};
 
-/// Items behind a function change nothing of what it does, and nothing of an item's validity.
+/// Items of other names behind a function change nothing of what it does, and items behind an item nothing of its validity.
 pub fn items_behind()
     ensures meaning { MeaningIsKept }
     ensures validity { ValidityIsKept }
@@ -59,6 +59,12 @@ pub fn active_calls()
 pub fn deepest_chain()
     ensures some { HasDeepestChain }
     ensures longest { HasNoLongerChain }
+{}
+
+/// Where each function has a weight, some chain of calls is as heavy as the heaviest of the definitions, and in a valid program none is heavier. The weight 1 gives the call depth, and the number of variables and parameters the spaces.
+pub fn heaviest_chain()
+    ensures some { HasHeaviestChain }
+    ensures heaviest { HasNoHeavierChain }
 {}
 
 /// A call of a valid program, with arguments that fit in a memory whose cells have the kinds of their structs, returns or is stuck for one of the reasons 1 to 5, and the memory keeps the kinds.

@@ -4,9 +4,8 @@ use Rattle.std.specs.Prelude.{nat_eq}
 use Rattle.std.specs.List.{list_all}
 use Rattle.std.proofs.lemmas.Bool.{eqb-true}
 use Rattle.std.proofs.lemmas.List.{length-append}
-use Rattle.ecd_cast.specs.Lexemes.{Lexeme, Laid, IsLongest, is_lexeme, is_blank}
+use Rattle.ecd_cast.specs.Lexemes.{Lexeme, AreLexemes, Laid, IsLongest, is_lexeme, is_blank}
 use Rattle.ecd_cgrammar.specs.Faults.{Reaches, begins_blank}
-use Rattle.ecd_cgrammar.specs.Laws.{AreLexemes}
 
 -- ---- no lexeme begins with a blank
 

@@ -1,6 +1,5 @@
 pub mod Readers
 pub mod Layers
-pub mod Spelled
 pub mod Tables
 pub mod Sound
 pub mod Fine

@@ -15,7 +15,7 @@ use Rattle.ecd_cast.specs.declared.tree.Op.TheVariants.{Add, Sub, Mul, Shl, Shr,
 use Rattle.ecd_cast.specs.Lexemes.{Lexeme, is_name, is_word, is_digits, is_digit, begins_word}
 use Rattle.ecd_cast.specs.Spelling.{sign, literal, IsName}
 use Rattle.ecd_cgrammar.specs.Reading.{number_if, number_below, digits_if, literal_of, first_op, op_among, op_of, operators, same, said, name_of}
-use Rattle.ecd_cgrammar.proofs.Spelled.{decimal_digits}
+use Rattle.ecd_cast.proofs.Spelled.{decimal_digits}
 
 and_both : (a b : Bool) → (a && b) ≡ true → (a ≡ true) × (b ≡ true)
 and_both true b h = (refl, h)

@@ -2,15 +2,14 @@
 use Rattle.std.proofs.Common.{◌≡◌, ℕ, suc, inl, inr, true, false, List, [], ◌∷◌, ◌++◌, length, None, Err, refl, ap, sym, ◌∙◌, subst, arith, append_assoc, append-nil}
 use Rattle.std.proofs.lemmas.List.{length-append, append_cancel_left, append_cancel_right}
 use Rattle.ecd_cast.specs.declared.tree.Program.{Program}
-use Rattle.ecd_cast.specs.Lexemes.{Lexeme, Laid, IsLongest, is_lexeme}
-use Rattle.ecd_cast.specs.Spelling.{IsSpelledProgram, program_lexemes, first_line}
+use Rattle.ecd_cast.specs.Lexemes.{Lexeme, AreLexemes, Laid, IsLongest, is_lexeme}
+use Rattle.ecd_cast.specs.Spelling.{IsSpelling, IsSpelledProgram, program_lexemes, first_line}
 use Rattle.ecd_cgrammar.specs.Reading.{Deep, taken, stuck, program_at}
-use Rattle.ecd_cgrammar.specs.Faults.{IsSpelling, Begins, NoneGoesOn, Reaches, begins_blank, IsFault, FaultAt}
-use Rattle.ecd_cgrammar.specs.Laws.{AreLexemes}
+use Rattle.ecd_cgrammar.specs.Faults.{Begins, NoneGoesOn, Reaches, begins_blank, IsFault, FaultAt}
 use Rattle.ecd_cgrammar.proofs.Readers.{ok_is}
 use Rattle.ecd_cgrammar.proofs.Sound.{good_program}
 use Rattle.ecd_cgrammar.proofs.Programs.{fine_program}
-use Rattle.ecd_cgrammar.proofs.Spelled.{program_are}
+use Rattle.ecd_cast.proofs.Spelled.{program_are}
 use Rattle.ecd_cgrammar.proofs.Shallow.{enough}
 use Rattle.ecd_cgrammar.proofs.Lexing.{Compared, Together, First, Second, Ahead, compared, one_longest, laid_reaches, some_bytes, one_laying, solid}
 

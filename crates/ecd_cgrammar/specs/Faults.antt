@@ -3,12 +3,7 @@ use Rattle.std.specs.Prelude.{ℕ, ◌+◌, ◌≡◌, ◌⊎◌, Bool, true, fa
 use Rattle.std.specs.List.{list_all}
 use Rattle.ecd_cast.specs.declared.tree.Program.{Program}
 use Rattle.ecd_cast.specs.Lexemes.{Lexeme, IsLongest, is_lexeme, is_blank}
-use Rattle.ecd_cast.specs.Spelling.{Spells, IsSpelledProgram, program_lexemes, first_line}
-
--- the text spells the program, whose names are names and whose numbers fit
-pub record IsSpelling (program : Program) (text : List ℕ) : Type 0 where
-  pub spelled : IsSpelledProgram program
-  pub spells : Spells program text
+use Rattle.ecd_cast.specs.Spelling.{IsSpelledProgram, program_lexemes, first_line}
 
 -- some program begins with these lexemes
 pub record Begins (before : List Lexeme) : Type 0 where

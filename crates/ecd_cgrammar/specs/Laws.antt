@@ -1,13 +1,9 @@
 -- Facts about the definitions, as statements.
-use Rattle.std.specs.Prelude.{ℕ, ◌≡◌, true, List, [], ◌∷◌}
+use Rattle.std.specs.Prelude.{ℕ, ◌≡◌, List}
 use Rattle.ecd_cast.specs.declared.tree.Program.{Program}
-use Rattle.ecd_cast.specs.Lexemes.{Lexeme, Laid, is_lexeme}
-use Rattle.ecd_cast.specs.Spelling.{IsSpelledProgram, program_lexemes}
-use Rattle.ecd_cgrammar.specs.Faults.{IsSpelling, FaultAt}
-
-abbrev pub AreLexemes : List Lexeme → Type 0
-AreLexemes [] = Unit {0}
-AreLexemes (l ∷ ls) = (is_lexeme l ≡ true) × AreLexemes ls
+use Rattle.ecd_cast.specs.Lexemes.{Lexeme, AreLexemes, Laid}
+use Rattle.ecd_cast.specs.Spelling.{IsSpelling, IsSpelledProgram, program_lexemes}
+use Rattle.ecd_cgrammar.specs.Faults.{FaultAt}
 
 -- the lexemes of a program that has a spelling are lexemes
 abbrev pub ProgramsAreLexemes : Type 0

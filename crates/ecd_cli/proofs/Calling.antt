@@ -19,7 +19,8 @@ use Rattle.ecd_cast.proofs.Directs.{get_drop}
 use Rattle.ecd_cast.specs.Lookup.{AreReaderParams, IsFunctionAt}
 use Rattle.ecd_cast.proofs.Frame.{first_fault}
 use Rattle.ecd_ceval.proofs.Naming.{behind_it}
-use Rattle.ecd_cgrammar.specs.Faults.{IsSpelling, FaultAt}
+use Rattle.ecd_cast.specs.Spelling.{IsSpelling}
+use Rattle.ecd_cgrammar.specs.Faults.{FaultAt}
 use Rattle.ecd_cgrammar.proofs.Verdicts.{one_fault, no_fault, one_program}
 use Rattle.ecd_cast.specs.declared.fault.CFault.{CFault}
 use Rattle.ecd_cast.specs.declared.fault.CFault.TheVariants as faults

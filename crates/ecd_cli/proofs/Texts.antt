@@ -9,7 +9,7 @@ use Rattle.ecd_compile.specs.Schema.{IsTold}
 use Rattle.ecd_cast.specs.declared.tree.Program.{Program}
 use Rattle.ecd_cli.specs.Asked.{Asked, SchemaAsked, read, run}
 use Rattle.ecd_cast.specs.Validity.{IsValid}
-use Rattle.ecd_cgrammar.specs.Faults.{IsSpelling}
+use Rattle.ecd_cast.specs.Spelling.{IsSpelling}
 use Rattle.ecd_cli.specs.Calls.{IsHalted, IsNotRun, HasNoProgram, BreaksRule}
 use Rattle.ecd_cli.specs.Outcomes.{Outcome, Done, NoEncoding, Usage, ReadFault, WriteFault, TooLarge, OutOfMemory, NotBuilt}
 use Rattle.ecd_cli.specs.Files.{Wanted, files_of, IsRead, AreRead, IsTooLarge, IsOneMissing}

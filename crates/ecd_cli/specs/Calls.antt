@@ -17,7 +17,8 @@ use Rattle.ecd_cast.specs.declared.fault.CFault.{CFault}
 use Rattle.ecd_cast.specs.declared.fault.CFault.TheVariants as faults
 use Rattle.ecd_ceval.specs.declared.machine.Halt.{Halt}
 use Rattle.ecd_ceval.specs.declared.machine.Halt.TheVariants as halts
-use Rattle.ecd_cgrammar.specs.Faults.{IsSpelling, FaultAt}
+use Rattle.ecd_cast.specs.Spelling.{IsSpelling}
+use Rattle.ecd_cgrammar.specs.Faults.{FaultAt}
 use Rattle.ecd_cli.specs.Outcomes.{Outcome, OutOfMemory, NoSpelling, BreaksC, Stuck, Spent, NoFunction}
 
 -- the struct of a name

@@ -3,7 +3,7 @@
 ghost use Rattle.std.specs.Prelude.{◌≡◌, ◌≤◌, ◌⊎◌, ℕ, List, Some, None, IfOk, IfErr, MatchOption, length, slice_get};
 ghost use Rattle.ecd_cast.specs.declared.tree.CellInfo.{CellInfo};
 ghost use Rattle.ecd_cast.specs.Validity.{IsValid, structs_of};
-ghost use Rattle.ecd_cgrammar.specs.Faults.{IsSpelling};
+ghost use Rattle.ecd_cast.specs.Spelling.{IsSpelling};
 ghost use Rattle.ecd_cli.specs.Outcomes.{OutOfMemory as WantsMemory};
 ghost use Rattle.ecd_cli.specs.Calls.{struct_named, HasReader, IsReader, TakesStruct, TakesNone, IsHalted, HasNoProgram, BreaksRule, IsReturnText, outcome_of_fault, outcome_of_halt};
 ghost use Rattle.ecd_cli.specs.Answers.{outcome_of};

@@ -5,10 +5,10 @@ use Rattle.std.specs.List.{list_all, list_any}
 use Rattle.std.proofs.lemmas.List.Folds.{list_all-append}
 use Rattle.std.proofs.lemmas.Slice.Eq.{bytes_eq-Decides}
 use Rattle.std.proofs.lemmas.Bool.{eqb-true}
-use Rattle.ecd_cast.specs.Lexemes.{Lexeme, Laid, IsLongest, is_lexeme, is_word, is_digits, is_literal, digits_and_ull, is_sign, is_pair_sign, is_word_byte, begins_word, is_digit, is_blank}
+use Rattle.ecd_cast.specs.Lexemes.{Lexeme, AreLexemes, Laid, IsLongest, is_lexeme, is_word, is_digits, is_literal, digits_and_ull, is_sign, is_pair_sign, is_word_byte, begins_word, is_digit, is_blank}
 use Rattle.ecd_cast.specs.Spelling.{first_line, program_lexemes, Spells}
 use Rattle.ecd_cast.specs.declared.tree.Program.{Program}
-use Rattle.ecd_cprint.specs.Layout.{may_join, seam, last_byte, first_byte, Extends, AreLexemes, Grows, IsGap}
+use Rattle.ecd_cprint.specs.Layout.{may_join, seam, last_byte, first_byte, Extends, Grows, IsGap}
 
 -- ---- tests
 

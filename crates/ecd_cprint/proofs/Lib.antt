@@ -1,3 +1,2 @@
 pub mod Joins
 pub mod Loops
-pub mod Spelled

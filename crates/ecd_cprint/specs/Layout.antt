@@ -1,8 +1,8 @@
 -- A text that grows lexeme by lexeme.
-use Rattle.std.specs.Prelude.{ℕ, ◌-◌, ◌≡◌, Bool, true, false, ◌&&◌, ◌||◌, List, [], ◌∷◌, ◌++◌, length, slice_get, Option, Some, None}
+use Rattle.std.specs.Prelude.{ℕ, ◌-◌, ◌≡◌, Bool, true, false, ◌&&◌, ◌||◌, List, ◌++◌, length, slice_get, Option, Some, None}
 use Rattle.std.specs.List.{list_all}
 use Rattle.ecd_cast.specs.Spelling.{first_line}
-use Rattle.ecd_cast.specs.Lexemes.{Lexeme, Laid, is_word_byte, is_pair_sign, is_lexeme, is_blank}
+use Rattle.ecd_cast.specs.Lexemes.{Lexeme, AreLexemes, Laid, is_word_byte, is_pair_sign, is_blank}
 
 -- whether a lexeme that ends with a could go on with c
 abbrev pub may_join : ℕ → ℕ → Bool
@@ -24,10 +24,6 @@ pub record Extends (ls : List Lexeme) (text : List ℕ) : Type 0 where
   pub body : List ℕ
   pub begins : text ≡ first_line ++ body
   pub more : (next : List Lexeme) (rest : List ℕ) → seam (last_byte text) (first_byte rest) ≡ false → Laid next rest → Laid (ls ++ next) (body ++ rest)
-
-abbrev pub AreLexemes : List Lexeme → Type 0
-AreLexemes [] = Unit {0}
-AreLexemes (l ∷ ls) = (is_lexeme l ≡ true) × AreLexemes ls
 
 -- the text grew by these lexemes
 pub record Grows (old new : List ℕ) (ls : List Lexeme) : Type 0 where

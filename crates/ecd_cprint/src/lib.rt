@@ -2,7 +2,7 @@
 #![tactic(auto)]
 
 ghost use Rattle.std.specs.Prelude.{IfOk};
-ghost use Rattle.ecd_cast.specs.Spelling.{Spells};
+ghost use Rattle.ecd_cast.specs.Spelling.{IsSpelling};
 
 mod expressions;
 mod items;
@@ -19,7 +19,7 @@ const FIRST_LINE: &[u8] = b"#include <stdint.h>\n";
 
 /// A text that spells the program.
 pub fn print(alloc: Global, program: &Valid) -> Result<ByteList, OutOfMemory>
-    ensures { IfOk result (λ text. Spells program.now text) }
+    ensures { IfOk result (λ text. IsSpelling program.now text) }
 {
     let mut out = Layout::new(Vec::from_slice(alloc, FIRST_LINE)?);
     print_program(alloc, &mut out, program.program())?;

@@ -7,9 +7,9 @@ use Rattle.std.proofs.Math.Seq.{take-append_seam, drop-append_seam}
 use Rattle.std.proofs.lemmas.Slice.Eq.{bytes_eq-Decides}
 use Rattle.ecd_cast.specs.declared.tree.Program.{Program}
 use Rattle.ecd_cast.specs.Lexemes.{Lexeme, Laid, IsLongest, is_lexeme, is_blank}
-use Rattle.ecd_cast.specs.Spelling.{first_line}
+use Rattle.ecd_cast.specs.Spelling.{first_line, IsSpelling}
 use Rattle.ecd_cgrammar.specs.Reading.{taken, stuck, program_at}
-use Rattle.ecd_cgrammar.specs.Faults.{IsSpelling, FaultAt, Reaches, begins_blank, IsFault}
+use Rattle.ecd_cgrammar.specs.Faults.{FaultAt, Reaches, begins_blank, IsFault}
 use Rattle.ecd_cgrammar.proofs.Lexing.{reaches_laid}
 use Rattle.ecd_cgrammar.proofs.Verdicts.{is_read, dead_behind, stops_at_end, stops_before, one_program, one_fault, no_fault}
 use Rattle.ecd_cread.specs.declared.token.Token.{Token}

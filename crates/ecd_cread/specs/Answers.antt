@@ -1,12 +1,12 @@
 -- What the reader answers.
 use Rattle.std.specs.Prelude.{◌≡◌, ◌⊎◌, ◌++◌, ℕ, List, [], ◌∷◌, Result, Ok, Err}
 use Rattle.ecd_cast.specs.declared.tree.Program.{Program}
-use Rattle.ecd_cast.specs.Spelling.{first_line}
+use Rattle.ecd_cast.specs.Spelling.{first_line, IsSpelling}
 use Rattle.ecd_cread.specs.declared.token.Token.{Token}
 use Rattle.ecd_cast.specs.Validity.{Fault, IsValid, IsFirstFault}
 use Rattle.ecd_cast.specs.declared.fault.CFault.{CFault}
 use Rattle.ecd_cast.specs.declared.fault.CFault.TheVariants as causes
-use Rattle.ecd_cgrammar.specs.Faults.{IsSpelling, FaultAt}
+use Rattle.ecd_cgrammar.specs.Faults.{FaultAt}
 use Rattle.ecd_cread.specs.declared.fault.TextFault.{TextFault}
 use Rattle.ecd_cread.specs.declared.fault.TextFault.TheVariants as faults
 

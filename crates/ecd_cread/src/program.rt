@@ -2,8 +2,8 @@
 
 ghost use Rattle.std.specs.Prelude.{◌≡◌, ◌≤◌, ◌++◌, ℕ, Ok, Err, IfOk, bytes_eq, length, take, drop};
 ghost use Rattle.ecd_cast.specs.declared.tree.Program.{Program};
-ghost use Rattle.ecd_cast.specs.Spelling.{first_line};
-ghost use Rattle.ecd_cgrammar.specs.Faults.{IsSpelling, FaultAt};
+ghost use Rattle.ecd_cast.specs.Spelling.{first_line, IsSpelling};
+ghost use Rattle.ecd_cgrammar.specs.Faults.{FaultAt};
 ghost use Rattle.ecd_cread.specs.Answers.{Answers, Is, place_or as place_meant};
 
 use crate::cursor::Halt;

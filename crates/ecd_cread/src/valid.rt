@@ -3,7 +3,8 @@
 ghost use Rattle.std.specs.Prelude.{◌≡◌, ◌≤◌, ℕ, Ok, Err, IfOk, length};
 ghost use Rattle.ecd_cast.specs.declared.tree.Program.{Program};
 ghost use Rattle.ecd_cast.specs.Validity.{Fault, IsValid, IsFirstFault};
-ghost use Rattle.ecd_cgrammar.specs.Faults.{IsSpelling, FaultAt};
+ghost use Rattle.ecd_cast.specs.Spelling.{IsSpelling};
+ghost use Rattle.ecd_cgrammar.specs.Faults.{FaultAt};
 ghost use Rattle.ecd_cread.specs.Answers.{AnswersWith, IsAnswer, Breaks};
 
 use crate::fault::TextFault;

@@ -2,8 +2,8 @@ use Rattle.std.proofs.Common.{take, ◌≡◌, ◌∙◌, sym, ap, arith, ◌+�
 use Rattle.ecd_cast.specs.First.{place_as}
 use Rattle.ecd_cast.specs.Kinds.{ANumber}
 use Rattle.ecd_cast.specs.Laws.{count_all}
-use Rattle.ecd_cast.specs.Validity.{known_after, at_place, block_faults, in_loop}
-use Rattle.ecd_cast.specs.Surroundings.{around_as, own_rules}
+use Rattle.ecd_cast.specs.Validity.{known_after, at_place, own_rules, block_faults, in_loop}
+use Rattle.ecd_cast.specs.Surroundings.{around_as}
 use Rattle.ecd_cast.proofs.Known.{left_block}
 use Rattle.ecd_cast.proofs.Sees.{sees_then, sees_same}
 use Rattle.ecd_cast.proofs.StmtLayers.{faults-If, faults-For, count-If, count-For, count-more, behind-more, sees_more}

@@ -24,9 +24,8 @@ use Rattle.ecd_cast.specs.declared.tree.CellKind.TheVariants.{Number as NumberCe
 use Rattle.ecd_cast.specs.declared.tree.CItem.{CItem}
 use Rattle.ecd_cast.specs.declared.tree.CItem.TheVariants.{Struct as AStructDecl, Function as AFunction}
 use Rattle.ecd_cast.specs.Memory.{Name}
-use Rattle.ecd_cast.specs.Lexemes.{Lexeme, is_lexeme, is_word, is_reserved, is_digits, is_literal, digits_and_ull, is_sign, is_digit}
+use Rattle.ecd_cast.specs.Lexemes.{Lexeme, AreLexemes, is_lexeme, is_word, is_reserved, is_digits, is_literal, digits_and_ull, is_sign, is_digit}
 use Rattle.ecd_cast.specs.Spelling.{IsName, sign, literal, expr_lexemes, operand_lexemes, source_lexemes, stmt_lexemes, row_lexemes, stmts_lexemes, param_lexemes, cell_lexemes, item_lexemes, with_commas, program_lexemes, IsSpelledExpr, IsSpelledOperand, AreSpelled, IsSpelledSource, IsSpelledStmt, IsSpelledRow, IsSpelledBlock, IsSpelledParamKind, AreSpelledParams, AreSpelledCells, IsSpelledItem, AreSpelledItems, IsSpelledProgram}
-use Rattle.ecd_cgrammar.specs.Laws.{AreLexemes}
 
 -- ---- numbers
 
