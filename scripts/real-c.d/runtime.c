@@ -27,14 +27,19 @@ static void expect(const char *what, size_t row, uint64_t answer, uint64_t wante
   }
 }
 
-/* Memory of exactly these bytes; of one byte where there is none. */
+/* Memory of exactly these bytes. Where there is none it begins where an allocated byte ends, so that no byte of it can be read. */
 static uint8_t *exactly(const char *bytes, size_t len) {
-  uint8_t *copy = malloc(len == 0 ? 1 : len);
-  if (copy == NULL) {
+  uint8_t *memory = malloc(len == 0 ? 1 : len);
+  if (memory == NULL) {
     exit(2);
   }
-  memcpy(copy, bytes, len);
-  return copy;
+  memcpy(memory, bytes, len);
+  return len == 0 ? memory + 1 : memory;
+}
+
+/* Gives memory back that is of exactly so many bytes. */
+static void release(uint8_t *memory, size_t len) {
+  free(len == 0 ? memory - 1 : memory);
 }
 
 /* Bytes, and the place behind the head at their front, or 0, its major type and its argument. */
@@ -94,7 +99,7 @@ static void try_heads(void) {
       expect("head_within all", row, head_within(buf, r->len, 0, r->major, 0, UINT64_MAX), r->end);
       expect("head_end at the end", row, head_end(buf, r->len, r->len), 0);
     }
-    free(buf);
+    release(buf, r->len);
   }
 }
 
@@ -151,8 +156,8 @@ static void try_orders(void) {
     uint8_t *right = exactly(r->right, r->right_len);
     expect("compare_bytes", row, compare_bytes(left, r->left_len, right, r->right_len), r->order);
     expect("compare_bytes turned round", row, compare_bytes(right, r->right_len, left, r->left_len), 2 - r->order);
-    free(left);
-    free(right);
+    release(left, r->left_len);
+    release(right, r->right_len);
   }
 }
 
@@ -194,7 +199,7 @@ static void try_texts(void) {
     const struct text_row *r = &texts[row];
     uint8_t *text = exactly(r->bytes, r->len);
     expect("utf8_valid", row, utf8_valid(text, r->len), r->valid);
-    free(text);
+    release(text, r->len);
   }
 }
 
@@ -209,74 +214,159 @@ static void try_copies(void) {
     expect("copy_bytes bytes", count, memcmp(out + 1, source, count) != 0, 0);
     expect("copy_bytes before", count, out[0], 0xa5);
     expect("copy_bytes behind", count, out[count + 1], 0xa5);
-    free(from);
+    release(from, count);
   }
 }
 
-/* Bytes, the place behind the item at their front, whatever its texts and the order of its keys, or 0; and how deep the item is where it is valid, or -1. */
+/* Bytes, and the place behind the item at their front, or 0: whatever its depth, its texts and the order of its keys, and where it is valid and at most 0, 1, 2 and 32 deep. */
 struct item_row {
   const char *bytes;
   size_t len;
   uint64_t end;
-  int depth;
+  uint64_t ends[4];
 };
 
+#define ITEM(bytes, end, at_0, at_1, at_2, at_32) {bytes, sizeof bytes - 1, end, {at_0, at_1, at_2, at_32}}
+
+/* The rows of the tests of `ecd_rt`, in the same order: one line each. */
 static const struct item_row items[] = {
-  {"", 0, 0, -1},
-  {"\x00", 1, 1, 0},
-  {"\x18\x18", 2, 2, 0},
-  {"\x18\x17", 2, 0, -1},
-  {"\x3b\xff\xff\xff\xff\xff\xff\xff\xff", 9, 9, 0},
-  {"\x43\x01\x02\x03", 4, 4, 0},
-  {"\x43\x01\x02", 3, 0, -1},
-  {"\x63\xe6\xb0\xb4", 4, 4, 0},
-  {"\x63\xed\xa0\x80", 4, 4, -1},
-  {"\x5b\xff\xff\xff\xff\xff\xff\xff\xff\x00", 10, 0, -1},
-  {"\xf4", 1, 1, 0},
-  {"\xf8\x20", 2, 2, 0},
-  {"\xf9\x3c\x00", 3, 0, -1},
-  {"\x80", 1, 1, 1},
-  {"\x80\x00", 2, 1, 1},
-  {"\x81\x00", 2, 2, 1},
-  {"\x81\x80", 2, 2, 2},
-  {"\x81\x81\x80", 3, 3, 3},
-  {"\x82\x00", 2, 0, -1},
-  {"\x83\x01\x82\x02\x03\x82\x04\x05", 8, 8, 2},
-  {"\x9b\xff\xff\xff\xff\xff\xff\xff\xff\x00", 10, 0, -1},
-  {"\xa0", 1, 1, 1},
-  {"\xa1\x01\x02", 3, 3, 1},
-  {"\xa1\x01", 2, 0, -1},
-  {"\xa2\x01\x00\x02\x00", 5, 5, 1},
-  {"\xa2\x02\x00\x01\x00", 5, 5, -1},
-  {"\xa2\x01\x00\x01\x00", 5, 5, -1},
-  {"\xa2\x61" "b\x00\x61" "a\x00", 7, 7, -1},
-  {"\xa2\x0a\x00\x18\x64\x00", 6, 6, 1},
-  {"\xa1\x80\xa0", 3, 3, 2},
-  {"\xbb\xff\xff\xff\xff\xff\xff\xff\xff\x00", 10, 0, -1},
-  {"\xc0\x61" "a", 3, 3, 1},
-  {"\xc0\xc1\x00", 3, 3, 2},
-  {"\xd9\xd9\xf7\x82\x00\x00", 6, 6, 2},
-  {"\xc0", 1, 0, -1},
-  {"\xff", 1, 0, -1},
+  ITEM("", 0, 0, 0, 0, 0),
+  ITEM("\x00", 1, 1, 1, 1, 1),
+  ITEM("\x17\x00", 1, 1, 1, 1, 1),
+  ITEM("\x18", 0, 0, 0, 0, 0),
+  ITEM("\x18\x17", 0, 0, 0, 0, 0),
+  ITEM("\x18\x18", 2, 2, 2, 2, 2),
+  ITEM("\x18\xff\x00", 2, 2, 2, 2, 2),
+  ITEM("\x19\x03\xe8", 3, 3, 3, 3, 3),
+  ITEM("\x19\x00\xff", 0, 0, 0, 0, 0),
+  ITEM("\x1a\x00\x00\xff\xff", 0, 0, 0, 0, 0),
+  ITEM("\x1b\x00\x00\x00\x01\x00\x00\x00\x00", 9, 9, 9, 9, 9),
+  ITEM("\x1b\xff\xff\xff\xff\xff\xff\xff\xff", 9, 9, 9, 9, 9),
+  ITEM("\x1c", 0, 0, 0, 0, 0),
+  ITEM("\x1f", 0, 0, 0, 0, 0),
+  ITEM("\x20", 1, 1, 1, 1, 1),
+  ITEM("\x38\x17", 0, 0, 0, 0, 0),
+  ITEM("\x3b\xff\xff\xff\xff\xff\xff\xff\xff", 9, 9, 9, 9, 9),
+  ITEM("\x40", 1, 1, 1, 1, 1),
+  ITEM("\x41", 0, 0, 0, 0, 0),
+  ITEM("\x44\x01\x02\x03", 0, 0, 0, 0, 0),
+  ITEM("\x44\x01\x02\x03\x04\x05", 5, 5, 5, 5, 5),
+  ITEM("\x5b\xff\xff\xff\xff\xff\xff\xff\xff\x00", 0, 0, 0, 0, 0),
+  ITEM("\x5f\x40\xff", 0, 0, 0, 0, 0),
+  ITEM("\x60", 1, 1, 1, 1, 1),
+  ITEM("\x61\x80", 2, 0, 0, 0, 0),
+  ITEM("\x62\xc3\xa9", 3, 3, 3, 3, 3),
+  ITEM("\x62\xc3\x28", 3, 0, 0, 0, 0),
+  ITEM("\x62\xc0\x80", 3, 0, 0, 0, 0),
+  ITEM("\x63\xe2\x82\xac", 4, 4, 4, 4, 4),
+  ITEM("\x63\xed\xa0\x80", 4, 0, 0, 0, 0),
+  ITEM("\x64\xf0\x9f\x8d\x84", 5, 5, 5, 5, 5),
+  ITEM("\x64\xf4\x90\x80\x80", 5, 0, 0, 0, 0),
+  ITEM("\x64\x49\x45\x54", 0, 0, 0, 0, 0),
+  ITEM("\x64\x49\x45\x54\x46\x00", 5, 5, 5, 5, 5),
+  ITEM("\x7b\xff\xff\xff\xff\xff\xff\xff\xff\x00", 0, 0, 0, 0, 0),
+  ITEM("\x80", 1, 0, 1, 1, 1),
+  ITEM("\x80\x80", 1, 0, 1, 1, 1),
+  ITEM("\x81", 0, 0, 0, 0, 0),
+  ITEM("\x81\x00", 2, 0, 2, 2, 2),
+  ITEM("\x81\xff", 0, 0, 0, 0, 0),
+  ITEM("\x81\x61\xff", 3, 0, 0, 0, 0),
+  ITEM("\x81\x81\x80", 3, 0, 0, 0, 3),
+  ITEM("\x82\x00", 0, 0, 0, 0, 0),
+  ITEM("\x82\x00\x01\x02", 3, 0, 3, 3, 3),
+  ITEM("\x82\x80\x80", 3, 0, 0, 3, 3),
+  ITEM("\x82\x80\xa0", 3, 0, 0, 3, 3),
+  ITEM("\x82\x61\x61\x61\xfe", 5, 0, 0, 0, 0),
+  ITEM("\x83\x01\x82\x02\x03\x82\x04\x05", 8, 0, 0, 8, 8),
+  ITEM("\x83\x01\x82\x02\x03\x82\x04", 0, 0, 0, 0, 0),
+  ITEM("\x98\x18", 0, 0, 0, 0, 0),
+  ITEM("\x98\x17\x00", 0, 0, 0, 0, 0),
+  ITEM("\x9b\xff\xff\xff\xff\xff\xff\xff\xff", 0, 0, 0, 0, 0),
+  ITEM("\x9f\xff", 0, 0, 0, 0, 0),
+  ITEM("\xa0", 1, 0, 1, 1, 1),
+  ITEM("\xa1\x01", 0, 0, 0, 0, 0),
+  ITEM("\xa1\x01\x02", 3, 0, 3, 3, 3),
+  ITEM("\xa1\x80\x80", 3, 0, 0, 3, 3),
+  ITEM("\xa1\x80\xa0", 3, 0, 0, 3, 3),
+  ITEM("\xa1\x81\x80\xa1\x00\x01", 6, 0, 0, 0, 6),
+  ITEM("\xa1\x61\xff\x00", 4, 0, 0, 0, 0),
+  ITEM("\xa1\x00\x61\xff", 4, 0, 0, 0, 0),
+  ITEM("\xa2\x01\x02", 0, 0, 0, 0, 0),
+  ITEM("\xa2\x01\x02\x03\x04\x05", 5, 0, 5, 5, 5),
+  ITEM("\xa2\x02\x00\x01\x00", 5, 0, 0, 0, 0),
+  ITEM("\xa2\x01\x00\x01\x00", 5, 0, 0, 0, 0),
+  ITEM("\xa2\x01\x00\x18\x64\x00", 6, 0, 6, 6, 6),
+  ITEM("\xa2\x18\x64\x00\x01\x00", 6, 0, 0, 0, 0),
+  ITEM("\xa2\x20\x00\x18\x64\x00", 6, 0, 0, 0, 0),
+  ITEM("\xa2\x61\x61\x01\x61\x62\x82\x02\x03", 9, 0, 0, 9, 9),
+  ITEM("\xa2\x61\x62\x01\x61\x61\x02", 7, 0, 0, 0, 0),
+  ITEM("\xa2\x61\x61\x00\x62\x61\x61\x00", 8, 0, 8, 8, 8),
+  ITEM("\xa2\x62\x61\x61\x00\x61\x62\x00", 8, 0, 0, 0, 0),
+  ITEM("\xa2\x80\x00\x81\x00\x00", 6, 0, 0, 6, 6),
+  ITEM("\xa2\xa0\x00\xa0\x01", 5, 0, 0, 0, 0),
+  ITEM("\xa3\x00\x01\x20\x02\x40\x03", 7, 0, 7, 7, 7),
+  ITEM("\xa3\x00\x01\x40\x02\x20\x03", 7, 0, 0, 0, 0),
+  ITEM("\xa1\xa2\x01\x00\x01\x00\x00", 7, 0, 0, 0, 0),
+  ITEM("\x81\xa2\x02\x00\x01\x00", 6, 0, 0, 0, 0),
+  ITEM("\xbb\x7f\xff\xff\xff\xff\xff\xff\xff", 0, 0, 0, 0, 0),
+  ITEM("\xbb\x80\x00\x00\x00\x00\x00\x00\x00", 0, 0, 0, 0, 0),
+  ITEM("\xbb\xff\xff\xff\xff\xff\xff\xff\xff\x00", 0, 0, 0, 0, 0),
+  ITEM("\xbf\xff", 0, 0, 0, 0, 0),
+  ITEM("\xc0", 0, 0, 0, 0, 0),
+  ITEM("\xc1\x00", 2, 0, 2, 2, 2),
+  ITEM("\xc1\x1a\x51\x4b\x67\xb0", 6, 0, 6, 6, 6),
+  ITEM("\xc1\xc1\x00", 3, 0, 0, 3, 3),
+  ITEM("\xc1\xc1\x81\xc1\x00", 5, 0, 0, 0, 5),
+  ITEM("\xd8\x17\x00", 0, 0, 0, 0, 0),
+  ITEM("\xd8\x18\x45\x64\x49\x45\x54\x46", 8, 0, 8, 8, 8),
+  ITEM("\xd9\xd9\xf7\x82\x00\x00", 6, 0, 0, 6, 6),
+  ITEM("\xdb\xff\xff\xff\xff\xff\xff\xff\xff\xf6", 10, 0, 10, 10, 10),
+  ITEM("\xe0", 1, 1, 1, 1, 1),
+  ITEM("\xf3", 1, 1, 1, 1, 1),
+  ITEM("\xf4", 1, 1, 1, 1, 1),
+  ITEM("\xf8\x18", 0, 0, 0, 0, 0),
+  ITEM("\xf8\x20", 2, 2, 2, 2, 2),
+  ITEM("\xf8\xff\x00", 2, 2, 2, 2, 2),
+  ITEM("\xf9\x00\x00", 0, 0, 0, 0, 0),
+  ITEM("\x82\xf9\x00\x00", 0, 0, 0, 0, 0),
+  ITEM("\xff", 0, 0, 0, 0, 0),
 };
+
+static uint64_t (*const any[])(const uint8_t *, uint64_t, uint64_t) = {any_0, any_1, any_2, any_32};
+static const char *const any_names[] = {"any_0", "any_1", "any_2", "any_32"};
 
 static void try_items(void) {
-  static uint64_t (*const any[])(const uint8_t *, uint64_t, uint64_t) = {any_0, any_1, any_2, any_32};
-  static const int depths[] = {0, 1, 2, 32};
   size_t row, k;
   for (row = 0; row < sizeof items / sizeof items[0]; row++) {
     const struct item_row *r = &items[row];
     uint8_t *buf = exactly(r->bytes, r->len);
     expect("item_end", row, item_end(buf, r->len, 0), r->end);
-    for (k = 0; k < sizeof depths / sizeof depths[0]; k++) {
-      expect("any", row, any[k](buf, r->len, 0), r->depth >= 0 && r->depth <= depths[k] ? r->end : 0);
+    for (k = 0; k < sizeof any / sizeof any[0]; k++) {
+      expect(any_names[k], row, any[k](buf, r->len, 0), r->ends[k]);
     }
-    free(buf);
+    release(buf, r->len);
+  }
+}
+
+/* Where fewer bytes are there than those of the item, none is found. */
+static void try_items_cut_off(void) {
+  size_t row, len, k;
+  for (row = 0; row < sizeof items / sizeof items[0]; row++) {
+    const struct item_row *r = &items[row];
+    for (len = 0; len < (r->end == 0 ? r->len : r->end); len++) {
+      uint8_t *buf = exactly(r->bytes, len);
+      expect("item_end of an item cut off", row, item_end(buf, len, 0), 0);
+      for (k = 0; k < sizeof any / sizeof any[0]; k++) {
+        expect("any of an item cut off", row, any[k](buf, len, 0), 0);
+      }
+      release(buf, len);
+    }
   }
 }
 
 int main(void) {
   try_items();
+  try_items_cut_off();
   try_heads();
   try_put_head();
   try_orders();

@@ -70,86 +70,84 @@ fn within<'a>(machine: &mut Machine<'a>, length: u64, kind: (u64, u64, u64)) -> 
     ask(machine, "head_within", &args, 94)
 }
 
+/// Bytes that begin with a head, or with none.
+const HEADS: [&[u8]; 48] = [
+    &[],
+    &[0x00],
+    &[0x0a],
+    &[0x17],
+    &[0x18],
+    &[0x18, 0x17],
+    &[0x18, 0x18],
+    &[0x18, 0xff],
+    &[0x19],
+    &[0x19, 0x01],
+    &[0x19, 0x00, 0xff],
+    &[0x19, 0x01, 0x00],
+    &[0x19, 0x03, 0xe8],
+    &[0x1a, 0x00, 0x0f, 0x42],
+    &[0x1a, 0x00, 0x00, 0xff, 0xff],
+    &[0x1a, 0x00, 0x01, 0x00, 0x00],
+    &[0x1a, 0x00, 0x0f, 0x42, 0x40],
+    &[0x1b, 0x00, 0x00, 0x00, 0x00, 0xff, 0xff, 0xff, 0xff],
+    &[0x1b, 0x00, 0x00, 0x00, 0x01, 0x00, 0x00, 0x00, 0x00],
+    &[0x1b, 0x00, 0x00, 0x00, 0xe8, 0xd4, 0xa5, 0x10, 0x00],
+    &[0x1b, 0xff, 0xff, 0xff, 0xff, 0xff, 0xff, 0xff, 0xff],
+    &[0x1b, 0xff, 0xff, 0xff, 0xff, 0xff, 0xff, 0xff],
+    &[0x1c],
+    &[0x1d, 0x00],
+    &[0x1e, 0x00],
+    &[0x1f],
+    &[0x20],
+    &[0x38, 0x63],
+    &[0x39, 0x03, 0xe7],
+    &[0x3b, 0xff, 0xff, 0xff, 0xff, 0xff, 0xff, 0xff, 0xff],
+    &[0x44, 0x01, 0x02, 0x03, 0x04],
+    &[0x58, 0x18],
+    &[0x5f, 0xff],
+    &[0x64, 0x49, 0x45, 0x54, 0x46],
+    &[0x83, 0x01, 0x02, 0x03],
+    &[0x98, 0x19],
+    &[0x9f],
+    &[0xa1, 0x01, 0x02],
+    &[0xb8, 0x17],
+    &[0xc2, 0x41, 0x01],
+    &[0xd8, 0x20],
+    &[0xd9, 0xd9, 0xf7],
+    &[0xf4],
+    &[0xf8, 0x1f],
+    &[0xf8, 0x20],
+    &[0xf9, 0x00, 0x00],
+    &[0xfb, 0x3f, 0xf1, 0x99, 0x99, 0x99, 0x99, 0x99, 0x9a],
+    &[0xff],
+];
+
+/// Whether the functions over heads find at the front of the window what the reader finds there.
+fn head_agrees<'a>(machine: &mut Machine<'a>, bytes: &[u8]) -> bool {
+    let length = bytes.len() as u64;
+    let found = end(machine, 0, length, 0);
+    match read_head(bytes, 0) {
+        Ok((head, behind)) => {
+            let major = head.major as u64;
+            let arg = head.arg;
+            found == Some(behind as u64)
+                && argument(machine, 0) == Some(arg)
+                && within(machine, length, (major, arg, arg)) == found
+                && within(machine, length, (major, 0, u64::MAX)) == found
+                && within(machine, length, (major ^ 1, arg, arg)) == Some(0)
+                && within(machine, length, (major, arg / 2 + 1, arg / 2)) == Some(0)
+        }
+        Err(_) => found == Some(0) && within(machine, length, (0, 0, u64::MAX)) == Some(0),
+    }
+}
+
 #[test]
 fn heads_are_found_as_the_reader_finds_them(rt: HostRuntime) -> Result<(), Fail> {
-    let rows: [&[u8]; 48] = [
-        &[],
-        &[0x00],
-        &[0x0a],
-        &[0x17],
-        &[0x18],
-        &[0x18, 0x17],
-        &[0x18, 0x18],
-        &[0x18, 0xff],
-        &[0x19],
-        &[0x19, 0x01],
-        &[0x19, 0x00, 0xff],
-        &[0x19, 0x01, 0x00],
-        &[0x19, 0x03, 0xe8],
-        &[0x1a, 0x00, 0x0f, 0x42],
-        &[0x1a, 0x00, 0x00, 0xff, 0xff],
-        &[0x1a, 0x00, 0x01, 0x00, 0x00],
-        &[0x1a, 0x00, 0x0f, 0x42, 0x40],
-        &[0x1b, 0x00, 0x00, 0x00, 0x00, 0xff, 0xff, 0xff, 0xff],
-        &[0x1b, 0x00, 0x00, 0x00, 0x01, 0x00, 0x00, 0x00, 0x00],
-        &[0x1b, 0x00, 0x00, 0x00, 0xe8, 0xd4, 0xa5, 0x10, 0x00],
-        &[0x1b, 0xff, 0xff, 0xff, 0xff, 0xff, 0xff, 0xff, 0xff],
-        &[0x1b, 0xff, 0xff, 0xff, 0xff, 0xff, 0xff, 0xff],
-        &[0x1c],
-        &[0x1d, 0x00],
-        &[0x1e, 0x00],
-        &[0x1f],
-        &[0x20],
-        &[0x38, 0x63],
-        &[0x39, 0x03, 0xe7],
-        &[0x3b, 0xff, 0xff, 0xff, 0xff, 0xff, 0xff, 0xff, 0xff],
-        &[0x44, 0x01, 0x02, 0x03, 0x04],
-        &[0x58, 0x18],
-        &[0x5f, 0xff],
-        &[0x64, 0x49, 0x45, 0x54, 0x46],
-        &[0x83, 0x01, 0x02, 0x03],
-        &[0x98, 0x19],
-        &[0x9f],
-        &[0xa1, 0x01, 0x02],
-        &[0xb8, 0x17],
-        &[0xc2, 0x41, 0x01],
-        &[0xd8, 0x20],
-        &[0xd9, 0xd9, 0xf7],
-        &[0xf4],
-        &[0xf8, 0x1f],
-        &[0xf8, 0x20],
-        &[0xf9, 0x00, 0x00],
-        &[0xfb, 0x3f, 0xf1, 0x99, 0x99, 0x99, 0x99, 0x99, 0x9a],
-        &[0xff],
-    ];
     let alloc = rt.alloc();
     let valid = program(alloc)?;
-    for bytes in rows.iter() {
+    for (row, bytes) in HEADS.iter().enumerate() {
         let mut machine = machine(alloc, &valid, bytes)?;
-        let length = bytes.len() as u64;
-        let found = end(&mut machine, 0, length, 0);
-        match read_head(bytes, 0) {
-            Ok((head, behind)) => {
-                let major = head.major as u64;
-                let arg = head.arg;
-                assert_eq!(rt; found, Some(behind as u64));
-                assert_eq!(rt; argument(&mut machine, 0), Some(arg));
-                assert_eq!(rt; within(&mut machine, length, (major, arg, arg)), found);
-                assert_eq!(rt; within(&mut machine, length, (major, 0, u64::MAX)), found);
-                assert_eq!(rt;
-                    within(&mut machine, length, (major ^ 1, arg, arg)),
-                    Some(0)
-                );
-                assert_eq!(rt;
-                    within(&mut machine, length, (major, arg / 2 + 1, arg / 2)),
-                    Some(0)
-                );
-            }
-            Err(_) => {
-                assert_eq!(rt; found, Some(0));
-                assert_eq!(rt; within(&mut machine, length, (0, 0, u64::MAX)), Some(0));
-            }
-        }
+        assert!(rt; head_agrees(&mut machine, bytes), "row {row}");
     }
     Ok(())
 }
@@ -254,53 +252,54 @@ fn bytes_are_compared_from_the_left(rt: HostRuntime) -> Result<(), Fail> {
     Ok(())
 }
 
+/// Bytes that are UTF-8, or not.
+const TEXTS: [&[u8]; 24] = [
+    b"",
+    b"IETF",
+    &[0x7f],
+    &[0x80],
+    &[0xbf],
+    &[0xc1, 0xbf],
+    &[0xc2, 0x80],
+    &[0xc3, 0xbc],
+    &[0xc3],
+    &[0xc3, 0x28],
+    &[0xe0, 0x9f, 0xbf],
+    &[0xe0, 0xa0, 0x80],
+    &[0xe6, 0xb0, 0xb4],
+    &[0xe6, 0xb0],
+    &[0xed, 0x9f, 0xbf],
+    &[0xed, 0xa0, 0x80],
+    &[0xef, 0xbf, 0xbf, 0x41],
+    &[0xf0, 0x8f, 0xbf, 0xbf],
+    &[0xf0, 0x90, 0x85, 0x91],
+    &[0xf0, 0x90, 0x85],
+    &[0xf4, 0x8f, 0xbf, 0xbf],
+    &[0xf4, 0x90, 0x80, 0x80],
+    &[0xf5, 0x80, 0x80, 0x80],
+    &[0x41, 0xff],
+];
+
+/// `utf8_valid` of the first bytes.
+fn judged<'a>(machine: &mut Machine<'a>, length: u64) -> Option<u64> {
+    let place = Arg::Bytes {
+        block: 0,
+        offset: 0,
+    };
+    let limit = length.saturating_mul(27).saturating_add(27);
+    ask(machine, "utf8_valid", &[place, Arg::Number(length)], limit)
+}
+
 #[test]
 fn text_is_judged_as_std_judges_it(rt: HostRuntime) -> Result<(), Fail> {
-    let rows: [&[u8]; 24] = [
-        b"",
-        b"IETF",
-        &[0x7f],
-        &[0x80],
-        &[0xbf],
-        &[0xc1, 0xbf],
-        &[0xc2, 0x80],
-        &[0xc3, 0xbc],
-        &[0xc3],
-        &[0xc3, 0x28],
-        &[0xe0, 0x9f, 0xbf],
-        &[0xe0, 0xa0, 0x80],
-        &[0xe6, 0xb0, 0xb4],
-        &[0xe6, 0xb0],
-        &[0xed, 0x9f, 0xbf],
-        &[0xed, 0xa0, 0x80],
-        &[0xef, 0xbf, 0xbf, 0x41],
-        &[0xf0, 0x8f, 0xbf, 0xbf],
-        &[0xf0, 0x90, 0x85, 0x91],
-        &[0xf0, 0x90, 0x85],
-        &[0xf4, 0x8f, 0xbf, 0xbf],
-        &[0xf4, 0x90, 0x80, 0x80],
-        &[0xf5, 0x80, 0x80, 0x80],
-        &[0x41, 0xff],
-    ];
     let alloc = rt.alloc();
     let mut builder = Builder::new(alloc);
     utf8_check(alloc, &mut builder)?;
     let valid = builder.finish();
-    for bytes in rows.iter() {
+    for bytes in TEXTS.iter() {
         let mut machine = machine(alloc, &valid, bytes)?;
-        let place = Arg::Bytes {
-            block: 0,
-            offset: 0,
-        };
-        let length = bytes.len() as u64;
-        let limit = length.saturating_mul(27).saturating_add(27);
-        let answer = ask(
-            &mut machine,
-            "utf8_valid",
-            &[place, Arg::Number(length)],
-            limit,
-        );
         let is_text = std::str::from_utf8(bytes).is_ok();
+        let answer = judged(&mut machine, bytes.len() as u64);
         assert_eq!(rt; answer, Some(is_text as u64));
     }
     Ok(())
@@ -345,78 +344,90 @@ fn output_order<'a>(machine: &mut Machine<'a>) -> Option<u64> {
     ask(machine, "compare_bytes", &args, 91)
 }
 
+/// A major type, an argument, the length of their head, and the output that has it behind its third byte.
+const WRITTEN: [(u64, u64, u64, &[u8]); 10] = [
+    (0, 0, 1, b"\xff\xff\xff\x00\xff\xff\xff\xff\xff\xff\xff\xff"),
+    (
+        1,
+        23,
+        1,
+        b"\xff\xff\xff\x37\xff\xff\xff\xff\xff\xff\xff\xff",
+    ),
+    (
+        2,
+        24,
+        2,
+        b"\xff\xff\xff\x58\x18\xff\xff\xff\xff\xff\xff\xff",
+    ),
+    (
+        3,
+        255,
+        2,
+        b"\xff\xff\xff\x78\xff\xff\xff\xff\xff\xff\xff\xff",
+    ),
+    (
+        4,
+        256,
+        3,
+        b"\xff\xff\xff\x99\x01\x00\xff\xff\xff\xff\xff\xff",
+    ),
+    (
+        5,
+        65535,
+        3,
+        b"\xff\xff\xff\xb9\xff\xff\xff\xff\xff\xff\xff\xff",
+    ),
+    (
+        6,
+        65536,
+        5,
+        b"\xff\xff\xff\xda\x00\x01\x00\x00\xff\xff\xff\xff",
+    ),
+    (
+        0,
+        1000000,
+        5,
+        b"\xff\xff\xff\x1a\x00\x0f\x42\x40\xff\xff\xff\xff",
+    ),
+    (
+        0,
+        1000000000000,
+        9,
+        b"\xff\xff\xff\x1b\x00\x00\x00\xe8\xd4\xa5\x10\x00",
+    ),
+    (
+        7,
+        32,
+        2,
+        b"\xff\xff\xff\xf8\x20\xff\xff\xff\xff\xff\xff\xff",
+    ),
+];
+
+/// `put_head` of a major type and an argument, behind the third byte of the output.
+fn put<'a>(machine: &mut Machine<'a>, major: u64, argument: u64) -> Option<u64> {
+    let out = Arg::Bytes {
+        block: 1,
+        offset: 1,
+    };
+    let args = [
+        out,
+        Arg::Number(2),
+        Arg::Number(major),
+        Arg::Number(argument),
+    ];
+    ask(machine, "put_head", &args, 29)
+}
+
 #[test]
 fn heads_are_written_in_their_shortest_form(rt: HostRuntime) -> Result<(), Fail> {
-    let rows: [(u64, u64, u64, &[u8]); 10] = [
-        (0, 0, 1, b"\xff\xff\xff\x00\xff\xff\xff\xff\xff\xff\xff\xff"),
-        (
-            1,
-            23,
-            1,
-            b"\xff\xff\xff\x37\xff\xff\xff\xff\xff\xff\xff\xff",
-        ),
-        (
-            2,
-            24,
-            2,
-            b"\xff\xff\xff\x58\x18\xff\xff\xff\xff\xff\xff\xff",
-        ),
-        (
-            3,
-            255,
-            2,
-            b"\xff\xff\xff\x78\xff\xff\xff\xff\xff\xff\xff\xff",
-        ),
-        (
-            4,
-            256,
-            3,
-            b"\xff\xff\xff\x99\x01\x00\xff\xff\xff\xff\xff\xff",
-        ),
-        (
-            5,
-            65535,
-            3,
-            b"\xff\xff\xff\xb9\xff\xff\xff\xff\xff\xff\xff\xff",
-        ),
-        (
-            6,
-            65536,
-            5,
-            b"\xff\xff\xff\xda\x00\x01\x00\x00\xff\xff\xff\xff",
-        ),
-        (
-            0,
-            1000000,
-            5,
-            b"\xff\xff\xff\x1a\x00\x0f\x42\x40\xff\xff\xff\xff",
-        ),
-        (
-            0,
-            1000000000000,
-            9,
-            b"\xff\xff\xff\x1b\x00\x00\x00\xe8\xd4\xa5\x10\x00",
-        ),
-        (
-            7,
-            32,
-            2,
-            b"\xff\xff\xff\xf8\x20\xff\xff\xff\xff\xff\xff\xff",
-        ),
-    ];
     let alloc = rt.alloc();
     let valid = writers(alloc)?;
-    for (major, argument, length, wanted) in rows.iter() {
+    for (major, argument, length, wanted) in WRITTEN.iter() {
         let mut machine = writing(alloc, &valid, &[], wanted)?;
-        let arg = Arg::Number(*argument);
-        assert_eq!(rt; ask(&mut machine, "head_length", &[arg], 9), Some(*length));
-        let out = Arg::Bytes {
-            block: 1,
-            offset: 1,
-        };
-        let args = [out, Arg::Number(2), Arg::Number(*major), arg];
+        let args = [Arg::Number(*argument)];
+        assert_eq!(rt; ask(&mut machine, "head_length", &args, 9), Some(*length));
         let end = length.checked_add(2);
-        assert_eq!(rt; ask(&mut machine, "put_head", &args, 29), end);
+        assert_eq!(rt; put(&mut machine, *major, *argument), end);
         assert_eq!(rt; output_order(&mut machine), Some(1));
     }
     Ok(())
