@@ -8,14 +8,8 @@ use Rattle.ecd_cast.specs.Memory.{Memory, Bytes, Event, WritesCell, writes_of, m
 use Rattle.ecd_cast.specs.Meaning.{Run, Returns, calls_of}
 use Rattle.ecd_cast.specs.Validity.{IsValid, structs_of, functions_of, function_names}
 use Rattle.ecd_compile.specs.Reader.{unit_struct, reader_params}
-<<<<<<< HEAD
-use Rattle.ecd_cast.specs.Spelling.{Spells, IsSpelledProgram}
-use Rattle.ecd_compile.specs.Schema.{IsNumber, HasCause, IsTold}
-=======
 use Rattle.ecd_cast.specs.Spelling.{IsSpelling}
-use Rattle.ecd_syntax.specs.declared.tree.Tree.{Tree}
-use Rattle.ecd_compile.specs.Schema.{IsSchema, HasCause, IsTold}
->>>>>>> f4ea6cab4b4eaf8cf2d77fee6af248eab3a82362
+use Rattle.ecd_compile.specs.Schema.{IsNumber, HasCause, IsTold}
 use Rattle.ecd_compile.specs.declared.refusal.Refusal.{Refusal}
 
 -- the call returns n, writes exactly these, and never has more calls active than the depth
@@ -47,16 +41,8 @@ pub record HasInterface (items : List CItem) : Type 0 where
 -- the schema stands for a number that the program reads, and the text spells the program, which has a spelling and is valid
 pub record IsCompiled (schema root text : List ℕ) (p : Program) : Type 0 where
   pub number : ℕ
-<<<<<<< HEAD
   pub is_number : IsNumber schema root number
-  pub spelled : IsSpelledProgram p
-  pub spells : Spells p text
-=======
-  pub parsed : IsSchema schema tree
-  pub sound : BreaksNone tree.rules
-  pub thin : IsThin tree root number
   pub spells : IsSpelling p text
->>>>>>> f4ea6cab4b4eaf8cf2d77fee6af248eab3a82362
   pub valid : IsValid p
   pub interface : HasInterface p.items
   pub reads : ReadsByte number p
