@@ -30,9 +30,8 @@ fn names_of(alloc: Global, text: &str) -> Result<Names, Fail> {
 }
 
 #[test]
-fn the_first_broken_rule_is_named(rt: HostRuntime) -> Result<(), Fail> {
+fn a_name_is_defined_once(rt: HostRuntime) -> Result<(), Fail> {
     for (text, rule, place) in [
-        // A name is defined once.
         ("a = 1 a = 2", 1, 6),
         ("$s /= int $s = tstr", 1, 10),
         ("a = int b = tstr", 0, 0),
@@ -43,7 +42,15 @@ fn the_first_broken_rule_is_named(rt: HostRuntime) -> Result<(), Fail> {
         ("a = 1 float = uint", 1, 6),
         ("a<t, t> = [t]", 1, 5),
         ("a<t, u, t> = [t, u]", 1, 8),
-        // A name that is used is defined.
+    ] {
+        assert_eq!(rt; fault_of(rt.alloc(), text)?, (rule, place), "{text}");
+    }
+    Ok(())
+}
+
+#[test]
+fn a_name_that_is_used_is_defined(rt: HostRuntime) -> Result<(), Fail> {
+    for (text, rule, place) in [
         ("a = b", 2, 4),
         ("a = int / uint / b", 2, 17),
         ("a = b<c> b<t> = [t]", 2, 6),
@@ -57,7 +64,15 @@ fn the_first_broken_rule_is_named(rt: HostRuntime) -> Result<(), Fail> {
         ("a = bstr .cbor b b = int", 0, 0),
         ("a = {b => c, ? d: int // #6.5(c)} b = tstr c = int", 0, 0),
         ("a = b<int> b<t> = [t]", 0, 0),
-        // No name leads back to itself.
+    ] {
+        assert_eq!(rt; fault_of(rt.alloc(), text)?, (rule, place), "{text}");
+    }
+    Ok(())
+}
+
+#[test]
+fn no_name_leads_back_to_itself(rt: HostRuntime) -> Result<(), Fail> {
+    for (text, rule, place) in [
         ("a = [* a]", 3, 7),
         ("a = {a => int}", 3, 5),
         ("a = b<a> b<t> = [t]", 3, 6),
@@ -66,7 +81,15 @@ fn the_first_broken_rule_is_named(rt: HostRuntime) -> Result<(), Fail> {
         ("a = [b] b = [c] c = [b]", 3, 13),
         ("a<a> = [a]", 0, 0),
         ("int = uint uint = int", 1, 0),
-        // The numbers of arguments and parameters agree.
+    ] {
+        assert_eq!(rt; fault_of(rt.alloc(), text)?, (rule, place), "{text}");
+    }
+    Ok(())
+}
+
+#[test]
+fn numbers_of_arguments_and_parameters_agree(rt: HostRuntime) -> Result<(), Fail> {
+    for (text, rule, place) in [
         ("a = b<int, int> b<t> = [t]", 4, 4),
         ("a = b b<t> = [t]", 4, 4),
         ("a = int<int>", 4, 4),
@@ -74,7 +97,15 @@ fn the_first_broken_rule_is_named(rt: HostRuntime) -> Result<(), Fail> {
         ("a<t> = t<int>", 4, 7),
         ("a<t> /= t a<t, u> /= u", 4, 10),
         ("a = b<int>", 2, 4),
-        // The kinds agree.
+    ] {
+        assert_eq!(rt; fault_of(rt.alloc(), text)?, (rule, place), "{text}");
+    }
+    Ok(())
+}
+
+#[test]
+fn kinds_agree(rt: HostRuntime) -> Result<(), Fail> {
+    for (text, rule, place) in [
         ("a = g / int g = (int, int)", 5, 4),
         ("a = (int, tstr) / int", 5, 4),
         ("a = ((int, tstr)) / int", 5, 4),
@@ -85,12 +116,24 @@ fn the_first_broken_rule_is_named(rt: HostRuntime) -> Result<(), Fail> {
         ("a = {x: g} g = (int, int)", 5, 8),
         ("a = #6.1(g) g = (int, int)", 5, 9),
         ("a = ~g g = (int, int)", 5, 5),
-        ("$s /= g g = (int, int)", 5, 6),
         ("a = &b b = int", 5, 5),
         ("c = &a a = b b = a", 5, 5),
         ("c = a / int a = b b = a", 3, 16),
         ("a<t> = &t", 5, 8),
         ("a = &$$s", 0, 0),
+        ("a = [$$s / int]", 5, 5),
+        ("a<$$s> = [$$s / int]", 0, 0),
+        ("g = (int, int) a<g> = [g / int]", 0, 0),
+    ] {
+        assert_eq!(rt; fault_of(rt.alloc(), text)?, (rule, place), "{text}");
+    }
+    Ok(())
+}
+
+#[test]
+fn assignments_suit_the_kinds_of_names(rt: HostRuntime) -> Result<(), Fail> {
+    for (text, rule, place) in [
+        ("$s /= g g = (int, int)", 5, 6),
         ("a = (int, int) a /= int", 5, 15),
         ("a /= (int, int)", 5, 0),
         ("$s //= int", 5, 0),
@@ -98,10 +141,15 @@ fn the_first_broken_rule_is_named(rt: HostRuntime) -> Result<(), Fail> {
         ("$s = (int)", 0, 0),
         ("$$s /= int", 5, 0),
         ("$$s //= int", 0, 0),
-        ("a = [$$s / int]", 5, 5),
-        ("a<$$s> = [$$s / int]", 0, 0),
-        ("g = (int, int) a<g> = [g / int]", 0, 0),
-        // A rule that breaks N1 counts too.
+    ] {
+        assert_eq!(rt; fault_of(rt.alloc(), text)?, (rule, place), "{text}");
+    }
+    Ok(())
+}
+
+#[test]
+fn a_rule_that_defines_a_name_again_counts_too(rt: HostRuntime) -> Result<(), Fail> {
+    for (text, rule, place) in [
         ("b = a / 5 a = int a = (int, int)", 5, 4),
         ("b = [a] a = int a = b", 3, 5),
     ] {
@@ -160,11 +208,13 @@ fn names_of_the_prelude_and_sockets_are_judged_too(rt: HostRuntime) -> Result<()
     Ok(())
 }
 
+/// Types, a group, a socket with two plugs, and a name with a parameter and two bodies.
+const SCHEMA: &str =
+    "a = [$s, g, b<int>] $s /= int $s /= tstr g = (int, int) b<t> = (t) b<u> /= [u]";
+
 #[test]
 fn names_are_told(rt: HostRuntime) -> Result<(), Fail> {
-    let alloc = rt.alloc();
-    let text = "a = [$s, g, b<int>] $s /= int $s /= tstr g = (int, int) b<t> = (t) b<u> /= [u]";
-    let names = names_of(alloc, text)?;
+    let names = names_of(rt.alloc(), SCHEMA)?;
     let told = |group, params, bodies| {
         Some(NameInfo {
             group,
@@ -185,6 +235,12 @@ fn names_are_told(rt: HostRuntime) -> Result<(), Fail> {
         assert_eq!(rt; names.lookup(name), info, "{name}");
         assert_eq!(rt; names.in_text(name), in_text, "{name}");
     }
+    Ok(())
+}
+
+#[test]
+fn bodies_are_told(rt: HostRuntime) -> Result<(), Fail> {
+    let names = names_of(rt.alloc(), SCHEMA)?;
     assert_eq!(rt; names.plugs("$s"), 2);
     assert_eq!(rt; names.plugs("$t"), 0);
     assert_eq!(rt; names.rules().len(), 6);
