@@ -10,10 +10,10 @@ ghost use Rattle.ecd_fixed.specs.Copier as trees;
 ghost use Rattle.ecd_fixed.specs.Copier.{CopiesBytes};
 ghost use Rattle.ecd_fixed.specs.Standing.{IsAmong};
 
-use crate::shorthands::{function, number, output, pointer, put, sum};
+use crate::shorthands::{function, number, of_two, output, pointer, put};
 use ecd_cast::build::{load, name, one, var};
 use ecd_cast::builder::Builder;
-use ecd_cast::tree::{CItem, Function, ParamList, Stmt, StmtList};
+use ecd_cast::tree::{CItem, Function, Op, ParamList, Stmt, StmtList};
 use ecd_list::OutOfMemory;
 use std::alloc::Global;
 
@@ -22,7 +22,8 @@ fn turn(alloc: Global) -> Result<StmtList, OutOfMemory>
     ensures { IfOk result (λ b. b ≡ trees.copy_turn) }
 {
     let byte = load(alloc, b"from", var(alloc, b"i")?)?;
-    one(alloc, put(alloc, sum(alloc, b"at", b"i")?, byte)?)
+    let place = of_two(alloc, Op::Add, b"at", b"i")?;
+    one(alloc, put(alloc, place, byte)?)
 }
 
 fn turns(alloc: Global) -> Result<Stmt, OutOfMemory>
@@ -39,7 +40,7 @@ fn body(alloc: Global) -> Result<StmtList, OutOfMemory>
     ensures { IfOk result (λ b. b ≡ trees.copy_body) }
 {
     let mut body = one(alloc, turns(alloc)?)?;
-    body.push(Stmt::Return(sum(alloc, b"at", b"count")?))?;
+    body.push(Stmt::Return(of_two(alloc, Op::Add, b"at", b"count")?))?;
     Ok(body)
 }
 

@@ -11,8 +11,8 @@ ghost use Rattle.ecd_fixed.specs.Standing.{AreNew, HeadsAreThere, HeadsMean};
 ghost use Rattle.ecd_fixed.specs.ExtentsStanding.{ExtentsAreThere, ExtentsMean};
 
 use crate::shorthands::{
-    assign, function, let_argument, let_call, let_major, let_number, none_where, of_two,
-    place_params, where_number, window_args, window_params,
+    assign, function, let_argument, let_call, let_major, let_number, none_where, none_without,
+    of_two, place_params, where_number, window_args, window_params,
 };
 use ecd_cast::build::{binary, give, name, one, var};
 use ecd_cast::builder::Builder;
@@ -34,7 +34,7 @@ fn own_head(alloc: Global) -> Result<StmtList, OutOfMemory>
 {
     let args = window_args(alloc, b"at")?;
     let mut body = one(alloc, let_call(alloc, b"end", b"head_end", args)?)?;
-    body.push(where_number(alloc, Op::Eq, b"end", 0, Expr::Number(0))?)?;
+    body.push(none_without(alloc, b"end")?)?;
     body.push(let_major(alloc)?)?;
     body.push(where_number(alloc, Op::Lt, b"major", 2, var(alloc, b"end")?)?)?;
     body.push(where_number(alloc, Op::Gt, b"major", 5, var(alloc, b"end")?)?)?;
@@ -109,7 +109,7 @@ fn turn(alloc: Global) -> Result<StmtList, OutOfMemory>
 {
     let args = window_args(alloc, b"end")?;
     let mut body = one(alloc, let_call(alloc, b"next", b"own_end", args)?)?;
-    body.push(where_number(alloc, Op::Eq, b"next", 0, Expr::Number(0))?)?;
+    body.push(none_without(alloc, b"next")?)?;
     body.push(let_inside(alloc)?)?;
     body.push(owe_inside(alloc)?)?;
     body.push(assign(alloc, b"end", var(alloc, b"next")?)?)?;

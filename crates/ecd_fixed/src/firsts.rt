@@ -1,12 +1,9 @@
 //! The functions over the first byte of a head.
 
 ghost use Rattle.std.specs.Prelude.{◌≡◌, IfOk};
-ghost use Rattle.ecd_cast.specs.declared.tree.Op.TheVariants.{Lt, Gt, Eq};
-ghost use Rattle.ecd_cast.specs.declared.tree.Expr.TheVariants.{Number as ANumber, Var as AVar};
-ghost use Rattle.ecd_fixed.specs.Shorthands as spec;
 ghost use Rattle.ecd_fixed.specs.Heads as trees;
 
-use crate::shorthands::{function, guard, let_number, number};
+use crate::shorthands::{answer_where, function, let_number, number};
 use ecd_cast::build::{binary, give, one, var};
 use ecd_cast::tree::{Expr, Function, Op, Stmt, StmtList};
 use ecd_list::OutOfMemory;
@@ -18,20 +15,6 @@ pub(crate) fn let_info(alloc: Global) -> Result<Stmt, OutOfMemory>
 {
     let low = binary(alloc, Op::BitAnd, var(alloc, b"first")?, Expr::Number(31))?;
     let_number(alloc, b"info", low)
-}
-
-/// `if (text op bound) { return answer; } else { }`
-fn answer_where(
-    alloc: Global,
-    op: Op,
-    text: &[u8],
-    bound: u64,
-    answer: u64,
-) -> Result<Stmt, OutOfMemory>
-    ensures { IfOk result (λ s. s ≡ spec.guard op (AVar text.now) (ANumber bound) (ANumber answer)) }
-{
-    let left = var(alloc, text)?;
-    guard(alloc, op, left, Expr::Number(bound), Expr::Number(answer))
 }
 
 fn size_body(alloc: Global) -> Result<StmtList, OutOfMemory>

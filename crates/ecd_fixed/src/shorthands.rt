@@ -1,7 +1,7 @@
 //! Statements and parameters from their parts.
 
 ghost use Rattle.std.specs.Prelude.{◌≡◌, [], ◌∷◌, IfOk};
-ghost use Rattle.ecd_cast.specs.declared.tree.Op.TheVariants.{Add as AnAdd};
+ghost use Rattle.ecd_cast.specs.declared.tree.Op.TheVariants.{Eq, Shr};
 ghost use Rattle.ecd_cast.specs.declared.tree.Stmt.TheVariants.{Return as AReturn, Store as AStore};
 ghost use Rattle.ecd_cast.specs.declared.tree.Expr.TheVariants.{Number as ANumber, Var as AVar, Binary as ABinary};
 ghost use Rattle.ecd_fixed.specs.Shorthands as spec;
@@ -11,7 +11,7 @@ ghost use Rattle.ecd_fixed.specs.Extents as extents;
 
 use ecd_cast::build::{binary, declare_call, load, name, one, var, when};
 use ecd_cast::tree::{
-    Expr, ExprList, Function, Op, Param, ParamKind, ParamList, Source, Stmt, StmtList,
+    Expr, ExprList, Function, Name, Op, Param, ParamKind, ParamList, Source, Stmt, StmtList,
 };
 use ecd_list::OutOfMemory;
 use std::alloc::Global;
@@ -73,20 +73,18 @@ pub(crate) fn plus(alloc: Global, text: &[u8], number: u64) -> Result<Expr, OutO
     binary(alloc, Op::Add, var(alloc, text)?, Expr::Number(number))
 }
 
-/// `(left + right)`
-pub(crate) fn sum(alloc: Global, left: &[u8], right: &[u8]) -> Result<Expr, OutOfMemory>
-    ensures { IfOk result (λ e. e ≡ ABinary AnAdd (AVar left.now) (AVar right.now)) }
+/// `((uint64_t)buf[at] >> 5ull)`
+pub(crate) fn major_here(alloc: Global) -> Result<Expr, OutOfMemory>
+    ensures { IfOk result (λ e. e ≡ ABinary Shr trees.byte_here (ANumber 5)) }
 {
-    let left = var(alloc, left)?;
-    binary(alloc, Op::Add, left, var(alloc, right)?)
+    binary(alloc, Op::Shr, byte_here(alloc)?, Expr::Number(5))
 }
 
 /// `uint64_t major = ((uint64_t)buf[at] >> 5ull);`
 pub fn let_major(alloc: Global) -> Result<Stmt, OutOfMemory>
     ensures { IfOk result (λ s. s ≡ extents.let_major) }
 {
-    let high = binary(alloc, Op::Shr, byte_here(alloc)?, Expr::Number(5))?;
-    let_number(alloc, b"major", high)
+    let_number(alloc, b"major", major_here(alloc)?)
 }
 
 /// `(left op right)` of two variables
@@ -108,6 +106,43 @@ pub fn where_number(
 {
     let left = var(alloc, text)?;
     guard(alloc, op, left, Expr::Number(number), answer)
+}
+
+/// `if (text op number) { return answer; } else { }`
+pub(crate) fn answer_where(
+    alloc: Global,
+    op: Op,
+    text: &[u8],
+    number: u64,
+    answer: u64,
+) -> Result<Stmt, OutOfMemory>
+    ensures { IfOk result (λ s. s ≡ spec.guard op (AVar text.now) (ANumber number) (ANumber answer)) }
+{
+    where_number(alloc, op, text, number, Expr::Number(answer))
+}
+
+/// `if (text == 0ull) { return 0ull; } else { }`
+pub(crate) fn none_without(alloc: Global, text: &[u8]) -> Result<Stmt, OutOfMemory>
+    ensures { IfOk result (λ s. s ≡ trees.none_where Eq (AVar text.now) (ANumber 0)) }
+{
+    answer_where(alloc, Op::Eq, text, 0, 0)
+}
+
+/// `if (text == number) { uint64_t answer = callee(args); return answer; } else { }`
+pub fn where_call(
+    alloc: Global,
+    text: &[u8],
+    number: u64,
+    answer: &[u8],
+    callee: Name,
+    args: ExprList,
+) -> Result<Stmt, OutOfMemory>
+    ensures { IfOk result (λ s. s ≡ spec.guard_call Eq (AVar text.now) (ANumber number) answer.now callee args) }
+{
+    let test = binary(alloc, Op::Eq, var(alloc, text)?, Expr::Number(number))?;
+    let mut answers = one(alloc, declare_call(alloc, answer, callee, args)?)?;
+    answers.push(give_variable(alloc, answer)?)?;
+    Ok(when(alloc, test, answers))
 }
 
 /// `(buf, len, text)`

@@ -1,7 +1,7 @@
 //! The functions that check UTF-8.
 
 ghost use Rattle.std.specs.Prelude.{◌≡◌, [], ◌∷◌, ◌++◌, IfOk, OnOk, codes};
-ghost use Rattle.ecd_cast.specs.declared.tree.Expr.TheVariants.{Number as ANumber, Var as AVar};
+ghost use Rattle.ecd_cast.specs.declared.tree.Expr.TheVariants.{Var as AVar};
 ghost use Rattle.ecd_cast.specs.declared.tree.Stmt.TheVariants.{Assign as AnAssign};
 ghost use Rattle.ecd_cast.specs.declared.tree.Source.TheVariants.{Call as FromCall};
 ghost use Rattle.ecd_cast.specs.Meaning.{calls_of};
@@ -11,8 +11,8 @@ ghost use Rattle.ecd_fixed.specs.Utf8 as trees;
 ghost use Rattle.ecd_fixed.specs.Utf8.{ChecksUtf8};
 ghost use Rattle.ecd_fixed.specs.Standing.{AreNew, IsAmong};
 
-use crate::shorthands::{function, give_variable, guard, let_call, let_number, number, pointer};
-use ecd_cast::build::{binary, give, load, name, one, var, when};
+use crate::shorthands::{answer_where, function, guard, let_number, number, pointer, where_call};
+use ecd_cast::build::{binary, give, load, name, one, var};
 use ecd_cast::builder::Builder;
 use ecd_cast::tree::{CItem, Expr, ExprList, Function, Op, ParamList, Source, Stmt, StmtList};
 use ecd_list::OutOfMemory;
@@ -22,16 +22,14 @@ use std::alloc::Global;
 fn byte_where(alloc: Global, op: Op, bound: u64, answer: u64) -> Result<Stmt, OutOfMemory>
     ensures { IfOk result (λ s. s ≡ trees.byte_where op bound answer) }
 {
-    let byte = var(alloc, b"byte")?;
-    guard(alloc, op, byte, Expr::Number(bound), Expr::Number(answer))
+    answer_where(alloc, op, b"byte", bound, answer)
 }
 
 /// `if (state op bound) { return answer; } else { }`
 fn state_where(alloc: Global, op: Op, bound: u64, answer: u64) -> Result<Stmt, OutOfMemory>
     ensures { IfOk result (λ s. s ≡ trees.state_where op bound answer) }
 {
-    let state = var(alloc, b"state")?;
-    guard(alloc, op, state, Expr::Number(bound), Expr::Number(answer))
+    answer_where(alloc, op, b"state", bound, answer)
 }
 
 fn begin_body(alloc: Global) -> Result<StmtList, OutOfMemory>
@@ -63,11 +61,9 @@ fn utf8_begin(alloc: Global) -> Result<Function, OutOfMemory>
 fn where_between(alloc: Global) -> Result<Stmt, OutOfMemory>
     ensures { IfOk result (λ s. s ≡ trees.where_between) }
 {
-    let test = binary(alloc, Op::Eq, var(alloc, b"state")?, Expr::Number(0))?;
     let args = one(alloc, var(alloc, b"byte")?)?;
-    let mut begins = one(alloc, let_call(alloc, b"begun", b"utf8_begin", args)?)?;
-    begins.push(give_variable(alloc, b"begun")?)?;
-    Ok(when(alloc, test, begins))
+    let callee = name(alloc, b"utf8_begin")?;
+    where_call(alloc, b"state", 0, b"begun", callee, args)
 }
 
 /// `if ((state == number) && (byte op bound)) { return 8ull; } else { }`

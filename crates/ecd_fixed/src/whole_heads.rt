@@ -9,11 +9,12 @@ ghost use Rattle.ecd_fixed.specs.Heads as trees;
 
 use crate::firsts::let_info;
 use crate::shorthands::{
-    byte_here, function, give_variable, guard, later_args, let_call, let_number, none_where,
-    number, place_args, place_params, plus, window_params,
+    byte_here, function, give_variable, later_args, let_argument, let_call, let_number, major_here,
+    none_where, none_without, number, of_two, place_params, plus, where_call, where_number,
+    window_args, window_params,
 };
-use ecd_cast::build::{binary, load, one, var, when};
-use ecd_cast::tree::{Expr, ExprList, Function, Op, ParamList, Stmt, StmtList};
+use ecd_cast::build::{load, name, one, var};
+use ecd_cast::tree::{Expr, Function, Op, ParamList, Stmt, StmtList};
 use ecd_list::OutOfMemory;
 use std::alloc::Global;
 
@@ -21,27 +22,23 @@ use std::alloc::Global;
 fn in_first(alloc: Global) -> Result<Stmt, OutOfMemory>
     ensures { IfOk result (λ s. s ≡ spec.guard Lt (AVar v.info) (ANumber 24) (AVar v.info)) }
 {
-    let info = var(alloc, b"info")?;
-    guard(alloc, Op::Lt, info, Expr::Number(24), var(alloc, b"info")?)
+    where_number(alloc, Op::Lt, b"info", 24, var(alloc, b"info")?)
 }
 
 /// `if (info == 24ull) { return (uint64_t)buf[(at + 1ull)]; } else { }`
 fn in_next(alloc: Global) -> Result<Stmt, OutOfMemory>
     ensures { IfOk result (λ s. s ≡ spec.guard Eq (AVar v.info) (ANumber 24) (ALoad v.buf (spec.plus v.at 1))) }
 {
-    let info = var(alloc, b"info")?;
     let next = load(alloc, b"buf", plus(alloc, b"at", 1)?)?;
-    guard(alloc, Op::Eq, info, Expr::Number(24), next)
+    where_number(alloc, Op::Eq, b"info", 24, next)
 }
 
 /// `if (info == number) { uint64_t text = part(buf, (at + 1ull)); return text; } else { }`
 fn where_wide(alloc: Global, number: u64, text: &[u8], part: &[u8]) -> Result<Stmt, OutOfMemory>
     ensures { IfOk result (λ s. s ≡ trees.where_wide number text.now part.now) }
 {
-    let test = binary(alloc, Op::Eq, var(alloc, b"info")?, Expr::Number(number))?;
-    let mut wide = one(alloc, let_call(alloc, text, part, later_args(alloc, 1)?)?)?;
-    wide.push(give_variable(alloc, text)?)?;
-    Ok(when(alloc, test, wide))
+    let args = later_args(alloc, 1)?;
+    where_call(alloc, b"info", number, text, name(alloc, part)?, args)
 }
 
 /// The narrow forms: the argument stands in the first byte or the next one.
@@ -83,7 +80,7 @@ pub(crate) fn head_argument(alloc: Global) -> Result<Function, OutOfMemory>
 fn behind_head(alloc: Global) -> Result<Expr, OutOfMemory>
     ensures { IfOk result (λ e. e ≡ trees.behind_head) }
 {
-    binary(alloc, Op::Add, var(alloc, b"at")?, var(alloc, b"size")?)
+    of_two(alloc, Op::Add, b"at", b"size")
 }
 
 /// `uint64_t text = part(first);`
@@ -98,13 +95,6 @@ fn none_by(alloc: Global, op: Op, left: &[u8], right: &[u8]) -> Result<Stmt, Out
     ensures { IfOk result (λ s. s ≡ trees.none_where op (AVar left.now) (AVar right.now)) }
 {
     none_where(alloc, op, var(alloc, left)?, var(alloc, right)?)
-}
-
-/// `if (text == 0ull) { return 0ull; } else { }`
-fn none_without(alloc: Global, text: &[u8]) -> Result<Stmt, OutOfMemory>
-    ensures { IfOk result (λ s. s ≡ trees.none_where Eq (AVar text.now) (ANumber 0)) }
-{
-    none_where(alloc, Op::Eq, var(alloc, text)?, Expr::Number(0))
 }
 
 /// `if ((at + size) > len) { return 0ull; } else { }`
@@ -122,7 +112,7 @@ fn end_body(alloc: Global) -> Result<StmtList, OutOfMemory>
     body.push(let_by_first(alloc, b"size", b"head_size")?)?;
     body.push(none_without(alloc, b"size")?)?;
     body.push(none_where_cut(alloc)?)?;
-    body.push(let_call(alloc, b"argument", b"head_argument", place_args(alloc)?)?)?;
+    body.push(let_argument(alloc)?)?;
     body.push(let_by_first(alloc, b"least", b"head_least")?)?;
     body.push(none_by(alloc, Op::Lt, b"argument", b"least")?)?;
     body.push(Stmt::Return(behind_head(alloc)?))?;
@@ -141,30 +131,17 @@ pub(crate) fn head_end(alloc: Global) -> Result<Function, OutOfMemory>
 fn other_major(alloc: Global) -> Result<Stmt, OutOfMemory>
     ensures { IfOk result (λ s. s ≡ trees.none_where Ne (ABinary Shr trees.byte_here (ANumber 5)) (AVar v.major)) }
 {
-    let high = binary(alloc, Op::Shr, byte_here(alloc)?, Expr::Number(5))?;
-    none_where(alloc, Op::Ne, high, var(alloc, b"major")?)
-}
-
-/// `(buf, len, at)`
-fn window_args(alloc: Global) -> Result<ExprList, OutOfMemory>
-    ensures { IfOk result (λ es. es ≡ AVar v.buf ∷ AVar v.len ∷ AVar v.at ∷ []) }
-{
-    let mut args = one(alloc, var(alloc, b"buf")?)?;
-    args.push(var(alloc, b"len")?)?;
-    args.push(var(alloc, b"at")?)?;
-    Ok(args)
+    none_where(alloc, Op::Ne, major_here(alloc)?, var(alloc, b"major")?)
 }
 
 fn within_body(alloc: Global) -> Result<StmtList, OutOfMemory>
     ensures { IfOk result (λ b. b ≡ trees.within_body) }
 {
-    let mut body = one(
-        alloc,
-        let_call(alloc, b"end", b"head_end", window_args(alloc)?)?,
-    )?;
+    let args = window_args(alloc, b"at")?;
+    let mut body = one(alloc, let_call(alloc, b"end", b"head_end", args)?)?;
     body.push(none_without(alloc, b"end")?)?;
     body.push(other_major(alloc)?)?;
-    body.push(let_call(alloc, b"argument", b"head_argument", place_args(alloc)?)?)?;
+    body.push(let_argument(alloc)?)?;
     body.push(none_by(alloc, Op::Lt, b"argument", b"lo")?)?;
     body.push(none_by(alloc, Op::Gt, b"argument", b"hi")?)?;
     body.push(give_variable(alloc, b"end")?)?;

@@ -9,7 +9,7 @@ ghost use Rattle.ecd_fixed.specs.HeadWriter as trees;
 ghost use Rattle.ecd_fixed.specs.Standing.{AreNew, HeadWriterIsThere, HeadWriterMeans};
 
 use crate::shorthands::{
-    function, give_variable, guard, let_call, let_number, number, output, plus, put,
+    answer_where, function, give_variable, let_call, let_number, number, output, plus, put,
 };
 use ecd_cast::build::{binary, give, one, var, when};
 use ecd_cast::builder::Builder;
@@ -21,14 +21,7 @@ use std::alloc::Global;
 fn length_where(alloc: Global, bound: u64, answer: u64) -> Result<Stmt, OutOfMemory>
     ensures { IfOk result (λ s. s ≡ trees.length_where bound answer) }
 {
-    let argument = var(alloc, b"argument")?;
-    guard(
-        alloc,
-        Op::Lt,
-        argument,
-        Expr::Number(bound),
-        Expr::Number(answer),
-    )
+    answer_where(alloc, Op::Lt, b"argument", bound, answer)
 }
 
 fn length_body(alloc: Global) -> Result<StmtList, OutOfMemory>

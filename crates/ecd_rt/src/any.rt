@@ -12,12 +12,12 @@ ghost use Rattle.ecd_rt.specs.Standing.{FrontIsThere, FrontMeans, LevelIsThere, 
 
 use crate::names::{any_name, items_name, pairs_name};
 use crate::runs::{items_end, pairs_end, text_end};
-use ecd_cast::build::{binary, declare_call, give, name, one, var, when};
+use ecd_cast::build::{declare_call, give, name, one, var};
 use ecd_cast::builder::Builder;
 use ecd_cast::tree::{CItem, Expr, ExprList, Function, Name, Op, Stmt, StmtList};
 use ecd_fixed::shorthands::{
-    give_variable, let_argument, let_call, let_major, place_args, where_number, window_args,
-    window_params,
+    give_variable, let_argument, let_call, let_major, place_args, where_call, where_number,
+    window_args, window_params,
 };
 use ecd_list::OutOfMemory;
 use std::alloc::Global;
@@ -32,10 +32,7 @@ fn where_major(
 ) -> Result<Stmt, OutOfMemory>
     ensures { IfOk result (λ s. s ≡ spec.guard_call Eq (AVar v.major) (ANumber number) text.now callee args) }
 {
-    let test = binary(alloc, Op::Eq, var(alloc, b"major")?, Expr::Number(number))?;
-    let mut answers = one(alloc, declare_call(alloc, text, callee, args)?)?;
-    answers.push(give_variable(alloc, text)?)?;
-    Ok(when(alloc, test, answers))
+    where_call(alloc, b"major", number, text, callee, args)
 }
 
 /// `if (major == 3ull) { uint64_t text = text_end(buf, at, end); return text; } else { }`

@@ -4,7 +4,6 @@ ghost use Rattle.std.specs.Prelude.{◌≡◌, [], ◌∷◌, ◌++◌, IfOk};
 ghost use Rattle.ecd_cast.specs.declared.tree.Op.TheVariants.{Sub};
 ghost use Rattle.ecd_cast.specs.declared.tree.Expr.TheVariants.{Var as AVar};
 ghost use Rattle.ecd_cast.specs.declared.tree.Stmt.TheVariants.{For as AFor};
-ghost use Rattle.ecd_fixed.specs.Shorthands as spec;
 ghost use Rattle.ecd_fixed.specs.Variables as v;
 ghost use Rattle.ecd_fixed.specs.Extents as extents;
 ghost use Rattle.ecd_rt.specs.Variables as w;
