@@ -371,6 +371,37 @@ fn call_on(alloc: Global, words: &str, text: &str) -> Result<Answer, OutOfMemory
     call(alloc, words, outside)
 }
 
+/// Whether the words over a file `s` and the data 05 tell each fault of the six calls at the two files, and none behind them.
+fn tell_each_read_fault(alloc: Global, words: &str, contents: &str) -> Result<bool, OutOfMemory> {
+    for fails in 0..7u64 {
+        let mut outside = with_file(contents);
+        outside.input = Some(b"\x05");
+        outside.read_fails = Some(fails);
+        let answer = call(alloc, words, outside)?;
+        let is_told = if fails < 6 {
+            answer.status == Status::ReadFault
+                && answer.err.as_slice() == b"read fault\n".as_slice()
+                && answer.out.is_empty()
+                && answer.read_faults == 1
+        } else {
+            answer.status == Status::Done && answer.err.is_empty() && answer.read_faults == 0
+        };
+        if !is_told {
+            return Ok(false);
+        }
+    }
+    Ok(true)
+}
+
+#[test]
+fn a_fault_at_either_file_is_told(rt: HostRuntime) -> Result<(), Fail> {
+    let alloc = rt.alloc();
+    let text = c_text(alloc, "1", "uint64_t n = 0ull;")?;
+    assert!(rt; tell_each_read_fault(alloc, "read s x 0 d", "x = 5")?);
+    assert!(rt; tell_each_read_fault(alloc, "run s take d 1000", text.as_str())?);
+    Ok(())
+}
+
 #[test]
 fn readers_of_c_files_return_or_halt(rt: HostRuntime) -> Result<(), Fail> {
     let (stuck, spent) = (Status::Stuck, Status::Spent);
