@@ -60,7 +60,7 @@ pub fn repeated(alloc: Global, first: &str, piece: &str, last: &str) -> Result<S
     Ok(text)
 }
 
-/// A schema of so many rules and one more, each of which uses the one behind it.
+/// A schema of so many rules and one more, each of which uses the one behind it. The last is a group, so all of them are.
 ///
 /// # Errors
 ///
@@ -72,6 +72,6 @@ pub fn chained_names(alloc: Global, count: u32) -> Result<String, AllocError> {
         let rule = format!(in alloc; "n{number:x}\nn{number:x}=")?;
         text.push_str(rule.as_str())?;
     }
-    text.push_str("5\n")?;
+    text.push_str("(5,5)\n")?;
     Ok(text)
 }
