@@ -8,7 +8,10 @@ use Rattle.ecd_rules.specs.Named.{all_rules, first_of, is_parameter}
 use Rattle.ecd_rules.specs.Leading.{Uses, LeadsTo, IsRanked}
 use Rattle.ecd_names.specs.Breaks.{IsRecursive}
 use Rattle.ecd_names.specs.Edges.{edges_of, AreComponents}
+use Rattle.ecd_names.specs.Laws.{NoThirdIsRanked}
 use Rattle.ecd_names.specs.Scenes.{AreInOneComponent}
+use Rattle.ecd_names.proofs.Cycles.{never-back}
+use Rattle.ecd_names.proofs.Ranking.{IsRanking, has-ranking}
 use Rattle.ecd_names.proofs.Walking.{some_same, element_at, at_element}
 use Rattle.ecd_names.proofs.Nodes.{node-named, node-below, node-of}
 use Rattle.ecd_names.proofs.Graphs.{AreNodes, use-edge, edge-use, leads-reaches, reaches-leads, node-leads}
@@ -40,6 +43,36 @@ module _ (text : List Rule) where
   ends-among e x stands =
       let u = use-edge (first_of text) (all_rules text) x.from x.to (element_at (edges_of text) e x stands) in
       (node-below (all_rules text) u.rule.name.text x.from u.starts, node-below (all_rules text) u.name.text x.to u.ends)
+
+  -- where no use leads back, no node reaches one with an edge to it
+  never-round : ((a b : List ℕ) → Uses text a b → LeadsTo text b a → ⊥) → (x y : ℕ) → IsEdge (edges_of text) x y → Reaches (edges_of text) y x → ⊥
+  never-round never x y edge back =
+      let u = node-used x y edge in
+      never u.0 u.1 u.2 (leads-reaches text (edges_of text) (first_of text) are-nodes y x u.1 u.0 u.4 u.3 back)
+
+  -- a ranking of nodes is one of names; what has no node comes first
+  module _ (rank : ℕ → ℕ) (ranking : IsRanking (edges_of text) rank) where
+    abbrev rank_of : Option ℕ → ℕ
+    rank_of None = 0
+    rank_of (Some n) = suc (rank n)
+
+    falls-by : (a b : List ℕ) (x : ℕ) (o : Option ℕ) → Uses text a b → first_of text a ≡ Some x → first_of text b ≡ o → rank_of o < suc (rank x)
+    falls-by a b x None u e f = omega arith
+    falls-by a b x (Some y) u e f = omega (arith, ranking.falls x y (node-edged a b x y u e f))
+
+    names-fall : (a b : List ℕ) → Uses text a b → rank_of (first_of text b) < rank_of (first_of text a)
+    names-fall a b u =
+        let x = node-starts a b u in
+        subst (λ (o : Option ℕ). rank_of (first_of text b) < rank_of o) (sym x.1) (falls-by a b x.0 (first_of text b) u x.1 refl)
+
+    names-ranked : IsRanked text
+    names-ranked = record { rank = λ name. rank_of (first_of text name); falls = names-fall }
+
+  pub graph-ranked : ((a b : List ℕ) → Uses text a b → LeadsTo text b a → ⊥) → IsRanked text
+  graph-ranked never = let r = has-ranking (edges_of text) (never-round never) in names-ranked r.rank r.is
+
+pub third-ranked : NoThirdIsRanked
+third-ranked text none = graph-ranked text (never-back text none)
 
 module _ (text : List Rule) (numbers : List ℕ) (are : AreComponents text numbers) where
   use-reaches : (a b : List ℕ) (x y : ℕ) → Uses text a b → first_of text a ≡ Some x → first_of text b ≡ Some y → Reaches (edges_of text) x y

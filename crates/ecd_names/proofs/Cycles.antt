@@ -6,7 +6,7 @@ use Rattle.ecd_prelude.specs.Prelude.{prelude_rules}
 use Rattle.ecd_syntax.specs.declared.tree.Rule.{Rule}
 use Rattle.ecd_uses.specs.declared.site.Site.TheVariants.{Use}
 use Rattle.ecd_rules.specs.Leading.{Uses, LeadsWithin, LeadsTo}
-use Rattle.ecd_names.specs.Breaks.{Breaks, BreaksNone, AtSite, Recursive}
+use Rattle.ecd_names.specs.Breaks.{Breaks, AtSite, Recursive}
 use Rattle.ecd_names.proofs.Walking.{at_element}
 use Rattle.ecd_names.proofs.Preludes.{prelude_rank, prelude-falls}
 
@@ -29,7 +29,7 @@ module _ (text : List Rule) where
         broken = AtSite (Use u.name u.args u.asked) u.used.among (refl, Recursive refl (record { free = u.used.free; back = subst (λ (n : List ℕ). LeadsTo text u.name.text n) (sym u.named) (subst (λ (n : List ℕ). LeadsTo text n a) (sym u.is) back) }));
       }
 
-  module _ (none : BreaksNone text) where
+  module _ (none : (place : ℕ) → Breaks text place 3 → ⊥) where
     -- so a use on the way round is one of the prelude, and its rank falls
     falls-round : (a b : List ℕ) → Uses text a b → LeadsTo text b a → prelude_rank b < prelude_rank a
     falls-round a b u back = by_place (Contains-append_cases prelude_rules text u.rule u.among)
@@ -38,7 +38,7 @@ module _ (text : List Rule) where
         by_place (inl c) =
             let falls = (prelude-falls u.rule c).falls u.name u.args u.asked u.used.among in
             subst (λ (n : List ℕ). prelude_rank n < prelude_rank a) u.is (subst (λ (n : List ℕ). prelude_rank u.name.text < prelude_rank n) u.named falls)
-        by_place (inr c) = absurd (none u.name.at 3 (text-breaks a b u c back))
+        by_place (inr c) = absurd (none u.name.at (text-breaks a b u c back))
 
     not-above : (steps : ℕ) (a b c : List ℕ) → LeadsTo text a b → LeadsWithin text steps b c → LeadsTo text c a → prelude_rank c ≤ prelude_rank b
     not-above zero a b c l same back = let e : prelude_rank b ≡ prelude_rank c = ap prelude_rank same in omega (arith, e)

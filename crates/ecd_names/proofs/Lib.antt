@@ -12,5 +12,6 @@ mod Duplicates
 mod Judging
 mod Preludes
 mod Cycles
+mod Ranking
 pub mod Resolving
 mod Counting

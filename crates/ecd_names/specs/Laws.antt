@@ -17,6 +17,10 @@ NoneIsFirst = (text : List Rule) (place number : ℕ) → BreaksNone text → Is
 abbrev pub RankedBreaksNoThird : Type 0
 RankedBreaksNoThird = (text : List Rule) (place : ℕ) → IsRanked text → Breaks text place 3 → ⊥
 
+-- and where no use leads back, names have a ranking
+abbrev pub NoThirdIsRanked : Type 0
+NoThirdIsRanked = (text : List Rule) → ((place : ℕ) → Breaks text place 3 → ⊥) → IsRanked text
+
 -- where none is broken, the text has no rule of a prelude name
 abbrev pub PreludeIsKept : Type 0
 PreludeIsKept = (text : List Rule) (name : List ℕ) → BreaksNone text → IsOfPrelude name → is_in_text text name ≡ false

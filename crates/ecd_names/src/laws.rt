@@ -1,6 +1,6 @@
 //! Laws of the rules of names: facts about the definitions alone.
 
-ghost use Rattle.ecd_names.specs.Laws.{HasOneFirst, NoneIsFirst, RankedBreaksNoThird, PreludeIsKept};
+ghost use Rattle.ecd_names.specs.Laws.{HasOneFirst, NoneIsFirst, RankedBreaksNoThird, NoThirdIsRanked, PreludeIsKept};
 
 /// A text has at most one first broken rule, and none where no rule is broken.
 pub fn one_first()
@@ -8,9 +8,11 @@ pub fn one_first()
     ensures none { NoneIsFirst }
 {}
 
-/// Where names have a ranking, no use breaks N3. `resolve` has the other side: where none is broken there is a ranking.
+/// Where names have a ranking, no use breaks N3, and where no use breaks N3, names have a ranking: the numbers of a
+/// ranking fall from each name to those that its bodies use.
 pub fn ranked_names()
-    ensures { RankedBreaksNoThird }
+    ensures unbroken { RankedBreaksNoThird }
+    ensures ranked { NoThirdIsRanked }
 {}
 
 /// Where no rule is broken, the text has no rule of a name of the prelude. So these names have the bodies that the prelude gives them, and those of floats none.
