@@ -48,7 +48,7 @@ pub record IsRecursive (text : List Rule) (rule : Rule) (name : List ℕ) : Type
 
 -- ---- N4, another number of arguments or parameters
 
--- how many arguments a name takes in a rule: a parameter, a socket without plugs and a name without rules take none
+-- how many arguments a name takes in a rule: a parameter, a socket without plugs, a name without rules and a name of the prelude take none
 abbrev pub arity_in : List Rule → Rule → List ℕ → ℕ
 arity_in text rule name = if is_parameter rule.params name then 0 else arity_of text name
 

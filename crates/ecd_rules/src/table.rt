@@ -104,10 +104,14 @@ impl RuleTable {
         self.first(name).is_some() || is_float_name(name)
     }
 
-    /// The number of parameters of a name: those of its first rule, and 0 where it has none (RFC 8610, section 3.10).
+    /// The number of parameters of a name (RFC 8610, section 3.10): those of its first rule, and 0 where it has none. The prelude's names of floats have none,
+    /// whatever rules the text gives them.
     pub fn arity(&self, name: &[u8]) -> usize
         ensures { result ≡ arity_of self.now name.now }
     {
+        if is_float_name(name) {
+            return 0;
+        }
         match self.body(name, 0) {
             Some(rule) => rule.params.len(),
             None => 0,
