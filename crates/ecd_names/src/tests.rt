@@ -34,6 +34,8 @@ fn a_name_is_defined_once(rt: HostRuntime) -> Result<(), Fail> {
     for (text, rule, place) in [
         ("a = 1 a = 2", 1, 6),
         ("$s /= int $s = tstr", 1, 10),
+        ("a /= 1 a = 2", 1, 7),
+        ("a = 1 a /= 2", 0, 0),
         ("a = int b = tstr", 0, 0),
         ("a /= int a /= tstr", 0, 0),
         ("int = uint", 1, 0),
@@ -79,6 +81,8 @@ fn no_name_leads_back_to_itself(rt: HostRuntime) -> Result<(), Fail> {
         ("a = [$s] $s /= a", 3, 5),
         ("a = b b = a", 3, 4),
         ("a = [b] b = [c] c = [b]", 3, 13),
+        ("c = a a = b b = a", 3, 10),
+        ("a = int int /= a", 3, 4),
         ("a<a> = [a]", 0, 0),
         ("int = uint uint = int", 1, 0),
     ] {
