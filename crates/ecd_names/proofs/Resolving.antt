@@ -6,7 +6,7 @@ use Rattle.std.proofs.lemmas.List.Folds.{Any-from_list_any}
 use Rattle.std.proofs.lemmas.Option.{slice_get_within, slice_get-get_or}
 use Rattle.ecd_syntax.specs.declared.tree.Rule.{Rule}
 use Rattle.ecd_uses.specs.declared.site.Site.TheVariants.{Use, Parenthesis}
-use Rattle.ecd_rules.specs.Named.{all_rules, first_arity, is_named}
+use Rattle.ecd_rules.specs.Named.{all_rules, first_arity, is_float, is_named}
 use Rattle.ecd_rules.specs.Leading.{LeadsWithin, IsRanked}
 use Rattle.ecd_names.specs.declared.first.Broken.{Broken}
 use Rattle.ecd_names.specs.declared.scope.Scope.{Scope}
@@ -75,7 +75,11 @@ first-few p (rule ∷ rules) (scope ∷ scopes) all = by_test (p rule) all.0 (fi
     by_test false is rest = rest
 
 pub few-parameters : (text : List Rule) (scopes : List Scope) → AreScopes (all_rules text) scopes → HasFewParameters text
-few-parameters text scopes are name = first-few (is_named name) (all_rules text) scopes are.all
+few-parameters text scopes are name = by_test (is_float name)
+  where
+    by_test : (b : Bool) → (if b then 0 else first_arity (filter (is_named name) (all_rules text))) < 2 ^ 32
+    by_test true = omega arith
+    by_test false = first-few (is_named name) (all_rules text) scopes are.all
 
 -- ---- a ranking and N3
 

@@ -11,7 +11,7 @@ use Rattle.ecd_uses.specs.declared.site.Site.{Site}
 use Rattle.ecd_uses.specs.declared.site.Site.TheVariants.{Use, Parenthesis}
 use Rattle.ecd_uses.specs.Sites.{sites_of}
 use Rattle.ecd_rules.specs.Named.{arity_of, IsDefined, is_in_text, is_parameter}
-use Rattle.ecd_rules.specs.Kinds.{LeadsToGroup, IsGroup, IsGroupEntry}
+use Rattle.ecd_rules.specs.Kinds.{IsGroupBeside, LeadsToGroup, IsGroup, IsGroupEntry}
 use Rattle.ecd_rules.specs.Sockets.{is_group_socket}
 use Rattle.ecd_rules.specs.Leading.{LeadsTo}
 
@@ -48,7 +48,7 @@ pub record IsRecursive (text : List Rule) (rule : Rule) (name : List ℕ) : Type
 
 -- ---- N4, another number of arguments or parameters
 
--- how many arguments a name takes in a rule: a parameter, a socket without plugs and a name without rules take none
+-- how many arguments a name takes in a rule: a parameter, a socket without plugs, a name without rules and a name of the prelude take none
 abbrev pub arity_in : List Rule → Rule → List ℕ → ℕ
 arity_in text rule name = if is_parameter rule.params name then 0 else arity_of text name
 
@@ -56,7 +56,7 @@ arity_in text rule name = if is_parameter rule.params name then 0 else arity_of 
 
 -- a name is a group in a rule, whose parameters are types
 abbrev pub IsGroupIn : List Rule → Rule → List ℕ → Type 0
-IsGroupIn text rule name = (is_parameter rule.params name ≡ false) × IsGroup text name
+IsGroupIn text rule name = IsGroupBeside (IsGroup text) rule.params name
 
 -- a group where a type is asked for, or a type where a group is
 pub data IsOtherKind (text : List Rule) (rule : Rule) (name : List ℕ) (asked : Asked) : Type 0 where
@@ -112,7 +112,11 @@ pub record Breaks (text : List Rule) (place number : ℕ) : Type 0 where
 abbrev pub BreaksNone : List Rule → Type 0
 BreaksNone text = (place number : ℕ) → Breaks text place number → ⊥
 
+-- the one place and number comes no later than the other: by the places, and at one place by the numbers
+abbrev pub ComesNoLater : (place number other_place other : ℕ) → Type 0
+ComesNoLater place number other_place other = (place < other_place) ⊎ ((place ≡ other_place) × (number ≤ other))
+
 -- the broken rule that is named: the least place, and there the least number
 pub record IsFirst (text : List Rule) (place number : ℕ) : Type 0 where
   pub broken : Breaks text place number
-  pub first : (other_place other : ℕ) → Breaks text other_place other → (place < other_place) ⊎ ((place ≡ other_place) × (number ≤ other))
+  pub first : (other_place other : ℕ) → Breaks text other_place other → ComesNoLater place number other_place other

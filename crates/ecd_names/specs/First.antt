@@ -1,6 +1,7 @@
 -- The first of the faults that are met, in any order.
-use Rattle.std.specs.Prelude.{ℕ, ◌≡◌, ◌<◌, ◌≤◌, ◌⊎◌, Bool, true, List, Option, Some, None}
+use Rattle.std.specs.Prelude.{ℕ, ◌≡◌, ◌<◌, ◌⊎◌, Bool, true, List, Option, Some, None}
 use Rattle.std.specs.List.{Contains}
+use Rattle.ecd_names.specs.Breaks.{ComesNoLater}
 use Rattle.ecd_names.specs.declared.first.Broken.{Broken}
 
 -- faults: which rule is broken at which place
@@ -10,7 +11,7 @@ Faults = (place number : ℕ) → Type 0
 -- the first so far comes no later than this one
 abbrev pub IsNoLater : Option Broken → Faults
 IsNoLater None place number = ⊥
-IsNoLater (Some b) place number = (b.place < place) ⊎ ((b.place ≡ place) × (b.number ≤ number))
+IsNoLater (Some b) place number = ComesNoLater b.place b.number place number
 
 -- these faults have been taken in
 pub record Sees (old new : Option Broken) (faults : Faults) : Type 0 where

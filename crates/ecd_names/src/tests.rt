@@ -34,6 +34,8 @@ fn a_name_is_defined_once(rt: HostRuntime) -> Result<(), Fail> {
     for (text, rule, place) in [
         ("a = 1 a = 2", 1, 6),
         ("$s /= int $s = tstr", 1, 10),
+        ("a /= 1 a = 2", 1, 7),
+        ("a = 1 a /= 2", 0, 0),
         ("a = int b = tstr", 0, 0),
         ("a /= int a /= tstr", 0, 0),
         ("int = uint", 1, 0),
@@ -79,6 +81,8 @@ fn no_name_leads_back_to_itself(rt: HostRuntime) -> Result<(), Fail> {
         ("a = [$s] $s /= a", 3, 5),
         ("a = b b = a", 3, 4),
         ("a = [b] b = [c] c = [b]", 3, 13),
+        ("c = a a = b b = a", 3, 10),
+        ("a = int int /= a", 3, 4),
         ("a<a> = [a]", 0, 0),
         ("int = uint uint = int", 1, 0),
     ] {
@@ -93,6 +97,14 @@ fn numbers_of_arguments_and_parameters_agree(rt: HostRuntime) -> Result<(), Fail
         ("a = b<int, int> b<t> = [t]", 4, 4),
         ("a = b b<t> = [t]", 4, 4),
         ("a = int<int>", 4, 4),
+        ("x = float16<int>", 4, 4),
+        ("x = float<int>", 4, 4),
+        ("x = [? number<uint>, time]", 4, 7),
+        ("x = float16", 0, 0),
+        ("x = [float16-32, float32-64]", 0, 0),
+        // A rule, which N1 refuses, gives a name of floats no parameters.
+        ("x = float16<int> float16<t> = t", 4, 4),
+        ("x = float16 float16<t> = t", 1, 12),
         ("a = $s<int>", 4, 4),
         ("a<t> = t<int>", 4, 7),
         ("a<t> /= t a<t, u> /= u", 4, 10),
@@ -193,7 +205,6 @@ fn names_of_the_prelude_and_sockets_are_judged_too(rt: HostRuntime) -> Result<()
         ("$$s //= (x: int) $$s = (y: int)", 1, 17),
         ("a //= (x: int) a = 1", 1, 15),
         // None of the prelude's names takes an argument, and a socket takes those of its first plug.
-        ("a = float<int>", 4, 4),
         ("a = [? uint<int>]", 4, 7),
         ("$s<t> /= t a = $s", 4, 15),
         ("$s<t> /= t a = $s<int>", 0, 0),

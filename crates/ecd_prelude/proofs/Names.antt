@@ -1,5 +1,5 @@
 -- The names of the prelude.
-use Rattle.std.proofs.Common.{◌≡◌, ◌↔◌, ℕ, Bool, true, false, ◌||◌, IsTrue, List, [], ◌∷◌, ◌∙◌, sym, ap, refl}
+use Rattle.std.proofs.Common.{◌≡◌, ◌↔◌, ℕ, Bool, true, false, ◌||◌, IsTrue, List, [], ◌∷◌, ◌∙◌, sym, refl}
 use Rattle.std.specs.List.{Contains, list_any, AllByRecursion}
 use Rattle.std.specs.Str.{bytes_eq}
 use Rattle.std.proofs.lemmas.Cmp.{nat_list_eq_equiv}
@@ -19,12 +19,9 @@ neither : (a b : Bool) → (a || b) ≡ false → (a ≡ false) × (b ≡ false)
 neither true b e = cc
 neither false b e = (refl, e)
 
-no_socket : (name : List ℕ) → is_socket name ≡ false → IsNoSocket name
-no_socket name h rest e = let differ : false ≡ true = sym h ∙ ap is_socket e in cc
-
 no_sockets : (names : List (List ℕ)) → list_any is_socket names ≡ false → AllByRecursion IsNoSocket names
 no_sockets [] e = tt
-no_sockets (name ∷ names) e = let both = neither (is_socket name) (list_any is_socket names) e in (no_socket name both.0, no_sockets names both.1)
+no_sockets (name ∷ names) e = let both = neither (is_socket name) (list_any is_socket names) e in (both.0, no_sockets names both.1)
 
 pub names-are_no_sockets : NamesAreNoSockets
 names-are_no_sockets = no_sockets all_names refl

@@ -23,7 +23,7 @@ is_socket [] = false
 is_socket (c ∷ rest) = nat_eq c 36
 
 abbrev pub IsNoSocket : List ℕ → Type 0
-IsNoSocket name = (rest : List ℕ) → name ≢ 36 ∷ rest
+IsNoSocket name = is_socket name ≡ false
 
 abbrev pub NamesAreNoSockets : Type 0
 NamesAreNoSockets = AllByRecursion IsNoSocket all_names

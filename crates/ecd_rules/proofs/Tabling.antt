@@ -1,11 +1,15 @@
 -- What a table answers.
-use Rattle.std.proofs.Common.{◌≡◌, ◌↔◌, ℕ, ◌+◌, ◌-◌, suc, ◌<◌, ◌≤◌, ◌^◌, Bool, true, cond, List, [], ◌∷◌, ◌++◌, length, Some, None, nat_le, get_or, refl, Vec, Global, sym, ap, ◌∙◌, subst, arith}
+use Rattle.std.proofs.Common.{◌≡◌, ◌↔◌, ℕ, ◌+◌, ◌-◌, suc, ◌<◌, ◌≤◌, ◌^◌, Bool, true, cond, List, [], ◌∷◌, ◌++◌, length, Some, None, nat_le, get_or, refl, Vec, Global, sym, ap, ◌∙◌, subst, ⊎_elim, arith}
 use Rattle.std.specs.Prelude.{slice_get, false}
-use Rattle.std.specs.List.{filter, list_any}
+use Rattle.std.specs.List.{Contains, filter, list_any}
+use Rattle.std.proofs.lemmas.Bool.{cases_Bool, cond-true, cond-false}
+use Rattle.std.proofs.lemmas.Cmp.{nat_list_eq_equiv}
+use Rattle.std.proofs.lemmas.Map.Views.{Contains-from_any, list_any-from_Contains}
 use Rattle.std.proofs.lemmas.Option.{slice_get-get_or, slice_get_within}
-use Rattle.ecd_prelude.specs.Prelude.{prelude_rules}
+use Rattle.std.proofs.lemmas.Slice.Eq.{bytes_eq-Decides}
+use Rattle.ecd_prelude.specs.Prelude.{prelude_rules, float_names}
 use Rattle.ecd_syntax.specs.declared.tree.Rule.{Rule}
-use Rattle.ecd_rules.specs.Named.{is_named, all_rules, bodies_of, first_of, first_arity}
+use Rattle.ecd_rules.specs.Named.{is_named, all_rules, bodies_of, first_of, first_arity, is_float, arity_of}
 use Rattle.ecd_rules.specs.Kinds.{IsGroup}
 use Rattle.ecd_rules.specs.Causes.{AreJudged}
 use Rattle.ecd_rules.specs.Sockets.{is_group_socket}
@@ -114,3 +118,13 @@ arity_some (x ∷ xs) rule h = let same : x ≡ rule = cc in ap (λ (r : Rule). 
 pub arity_none : (rules : List Rule) → slice_get rules 0 ≡ None → 0 ≡ first_arity rules
 arity_none [] h = refl
 arity_none (x ∷ xs) h = cc
+
+module _ (text : List Rule) (name : List ℕ) where
+  pub float-takes_none : Contains float_names name → 0 ≡ arity_of text name
+  float-takes_none h = sym (cond-true (is_float name) 0 (first_arity (bodies_of text name)) (list_any-from_Contains nat_list_eq_equiv name float_names h))
+
+  pub others-take : (Contains float_names name → ⊥) → arity_of text name ≡ first_arity (bodies_of text name)
+  others-take none = ⊎_elim
+      (λ (e : is_float name ≡ true). absurd (none (Contains-from_any (λ x y. (bytes_eq-Decides x y).0) name float_names e)))
+      (λ (e : is_float name ≡ false). cond-false (is_float name) 0 (first_arity (bodies_of text name)) e)
+      (cases_Bool (is_float name))

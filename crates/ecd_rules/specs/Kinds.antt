@@ -12,11 +12,15 @@ use Rattle.ecd_uses.specs.Leads.{lead_of}
 use Rattle.ecd_rules.specs.Named.{all_rules, is_parameter}
 use Rattle.ecd_rules.specs.Sockets.{is_group_socket}
 
--- what a lead says is a group, where these names are groups; a parameter of the rule around is a type
+-- a name is a group where these names are, beside the parameters of the rule around, which are types
+abbrev pub IsGroupBeside : (List ℕ → Type 0) → List Name → List ℕ → Type 0
+IsGroupBeside Groups params name = (is_parameter params name ≡ false) × Groups name
+
+-- what a lead says is a group, where these names are groups
 abbrev pub LeadsToGroup : (List ℕ → Type 0) → List Name → Lead → Type 0
 LeadsToGroup Groups params leads.Group = Unit {0}
 LeadsToGroup Groups params leads.Type = ⊥
-LeadsToGroup Groups params (leads.Named name) = (is_parameter params name.text ≡ false) × Groups name.text
+LeadsToGroup Groups params (leads.Named name) = IsGroupBeside Groups params name.text
 
 -- a rule makes its name a group: by `//=`, or by a body that is a group
 abbrev pub MakesGroup : (List ℕ → Type 0) → Rule → Type 0

@@ -1,5 +1,5 @@
 -- The rules of a schema under their names (RFC 8610, sections 2.2.2, 3.1, 3.9 and 3.10).
-use Rattle.std.specs.Prelude.{ℕ, Bool, ◌⊎◌, List, [], ◌∷◌, ◌++◌, Option, IsSome, length, bytes_eq}
+use Rattle.std.specs.Prelude.{ℕ, Bool, ◌⊎◌, if◌then◌else◌, List, [], ◌∷◌, ◌++◌, Option, IsSome, length, bytes_eq}
 use Rattle.std.specs.List.{Contains, filter, position, list_any}
 use Rattle.ecd_syntax.specs.declared.tree.Name.{Name}
 use Rattle.ecd_syntax.specs.declared.tree.Rule.{Rule}
@@ -25,9 +25,13 @@ abbrev pub first_arity : List Rule → ℕ
 first_arity [] = 0
 first_arity (rule ∷ rules) = length rule.params
 
--- the number of parameters of a name: those of its first rule
+-- whether this is one of the prelude's names of floats
+abbrev pub is_float : List ℕ → Bool
+is_float name = list_any (bytes_eq name) float_names
+
+-- the number of parameters of a name: those of its first rule, and none of a name of floats, also where the text has a rule for it
 abbrev pub arity_of : List Rule → List ℕ → ℕ
-arity_of text name = first_arity (bodies_of text name)
+arity_of text name = if is_float name then 0 else first_arity (bodies_of text name)
 
 -- the name has a rule, or is one of the prelude's floats, which have none
 abbrev pub IsDefined : List Rule → List ℕ → Type 0

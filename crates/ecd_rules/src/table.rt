@@ -46,8 +46,8 @@ impl RuleTable {
     ///
     /// # Errors
     ///
-    /// `OutOfMemory` where a growth was refused, there are more than 2^32 - 1 rules of the prelude and the text together, or parentheses alone stand inside
-    /// each other in more than 1,000 levels.
+    /// `OutOfMemory` where a growth was refused, there are more than 2^32 - 1 rules of the prelude and the text together, or more than 1,000 choices of a
+    /// type stand each alone in the parenthesis of the one before.
     pub fn new(alloc: Global, tree: Tree) -> Result<RuleTable, OutOfMemory>
         ensures { IfOk result (λ t. t ≡ tree.rules) }
     {
@@ -104,10 +104,14 @@ impl RuleTable {
         self.first(name).is_some() || is_float_name(name)
     }
 
-    /// The number of parameters of a name: those of its first rule, and 0 where it has none (RFC 8610, section 3.10).
+    /// The number of parameters of a name (RFC 8610, section 3.10): those of its first rule, and 0 where it has none. The prelude's names of floats have none,
+    /// whatever rules the text gives them.
     pub fn arity(&self, name: &[u8]) -> usize
         ensures { result ≡ arity_of self.now name.now }
     {
+        if is_float_name(name) {
+            return 0;
+        }
         match self.body(name, 0) {
             Some(rule) => rule.params.len(),
             None => 0,

@@ -127,6 +127,15 @@ fn names_are_defined_by_the_text_or_the_prelude(rt: HostRuntime) -> Result<(), F
 }
 
 #[test]
+fn the_prelude_decides_the_number_of_parameters_of_its_names(rt: HostRuntime) -> Result<(), Fail> {
+    let table = table_of(rt.alloc(), "int<t> = t float16<t> = t a<t> = t")?;
+    for (name, arity) in [("int", 0), ("float16", 0), ("float32", 0), ("a", 1)] {
+        assert_eq!(rt; table.arity(name.as_bytes()), arity, "{name}");
+    }
+    Ok(())
+}
+
+#[test]
 fn names_that_lead_round_to_each_other_alone_are_types(rt: HostRuntime) -> Result<(), Fail> {
     let table = table_of(rt.alloc(), "a = b b = a c = (a)")?;
     for name in ["a", "b", "c"] {

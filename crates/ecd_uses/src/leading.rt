@@ -17,7 +17,7 @@ pub(crate) const MOST_LEVELS: u32 = 1_000;
 ///
 /// # Errors
 ///
-/// `OutOfMemory` where a growth was refused, or parentheses alone stand inside each other in more than 1,000 levels: the stack is memory.
+/// `OutOfMemory` where a growth was refused, or more than 1,000 choices of a type stand each alone in the parenthesis of the one before: the stack is memory.
 pub fn lead(alloc: Global, entry: &Entry) -> Result<Lead, OutOfMemory>
     ensures { IfOk result (λ l. l ≡ lead_of entry.now) }
 {

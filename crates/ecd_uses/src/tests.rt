@@ -3,7 +3,7 @@
 use super::*;
 use ecd_lex::{MOST_BYTES, lex};
 use ecd_parse::parse;
-use ecd_syntax::{Alts, Assign, ByteList, Form, Key, Tree, Type1, Type2};
+use ecd_syntax::{Alts, Assign, ByteList, Form, GroupTree, Key, Tree, Type1, Type2, WayTree};
 use std::alloc::{AllocError, Global};
 use std::test::Fail;
 
@@ -200,7 +200,23 @@ fn nested(alloc: Global, levels: u32) -> Result<Entry, OutOfMemory> {
     for _ in 0..levels {
         args = List::from_vec(vec![in alloc; choice_of(alloc, args)?]?);
     }
-    let choices = List::from_vec(vec![in alloc; choice_of(alloc, args)?]?);
+    entry_of(alloc, choice_of(alloc, args)?)
+}
+
+/// The name `b` in so many parentheses.
+fn in_parentheses(alloc: Global, levels: u32) -> Result<Entry, OutOfMemory> {
+    let mut entry = entry_of(alloc, choice_of(alloc, List::new(alloc))?)?;
+    for _ in 0..levels {
+        let entries = List::from_vec(vec![in alloc; entry]?);
+        let ways = List::from_vec(vec![in alloc; WayTree { at: 0, entries }]?);
+        let form = Form::Paren(GroupTree { at: 0, ways });
+        entry = entry_of(alloc, alone(form))?;
+    }
+    Ok(entry)
+}
+
+fn entry_of(alloc: Global, choice: Type1) -> Result<Entry, OutOfMemory> {
+    let choices = List::from_vec(vec![in alloc; choice]?);
     Ok(Entry {
         at: 0,
         occur: None,
@@ -212,11 +228,27 @@ fn nested(alloc: Global, levels: u32) -> Result<Entry, OutOfMemory> {
 fn choice_of(alloc: Global, args: List<Type1>) -> Result<Type1, OutOfMemory> {
     let text = ByteList::from_slice(alloc, &[b'b'])?;
     let name = Name { at: 0, text };
-    let form = Form::Named { name, args };
-    Ok(Type1 {
+    Ok(alone(Form::Named { name, args }))
+}
+
+/// A choice without an operator.
+fn alone(form: Form) -> Type1 {
+    Type1 {
         at: 0,
         left: Type2 { at: 0, form },
         op: None,
+    }
+}
+
+/// The rule `a /= ` with this body.
+fn adding(alloc: Global, body: Entry) -> Result<Rule, OutOfMemory> {
+    let text = ByteList::from_slice(alloc, &[b'a'])?;
+    Ok(Rule {
+        at: 0,
+        name: Name { at: 0, text },
+        params: List::new(alloc),
+        assign: Assign::TypeMore,
+        body,
     })
 }
 
@@ -225,16 +257,26 @@ fn arguments_end_the_memory_of_the_stack_behind_a_thousand_levels(
     rt: HostRuntime,
 ) -> Result<(), Fail> {
     for (levels, want) in [(999, Some(1000)), (1000, None), (1500, None)] {
-        let text = ByteList::from_slice(rt.alloc(), &[b'a'])?;
-        let rule = Rule {
-            at: 0,
-            name: Name { at: 0, text },
-            params: List::new(rt.alloc()),
-            assign: Assign::Define,
-            body: nested(rt.alloc(), levels)?,
-        };
+        let rule = adding(rt.alloc(), nested(rt.alloc(), levels)?)?;
         let count = sites(rt.alloc(), &rule).ok().map(|found| found.len());
         assert_eq!(rt; count, want, "{levels}");
+    }
+    Ok(())
+}
+
+#[test]
+fn parentheses_end_the_memory_of_the_stack_behind_a_thousand_levels(
+    rt: HostRuntime,
+) -> Result<(), Fail> {
+    // The name is a choice itself, so 999 parentheses around it make 1,000 levels.
+    for (parentheses, is_taken) in [(998, true), (999, true), (1000, false), (1500, false)] {
+        let rule = adding(rt.alloc(), in_parentheses(rt.alloc(), parentheses)?)?;
+        let is_named = matches!(lead(rt.alloc(), &rule.body), Ok(Lead::Named(_)));
+        assert_eq!(rt; is_named, is_taken, "{parentheses}");
+        let is_refused = matches!(lead(rt.alloc(), &rule.body), Err(OutOfMemory));
+        assert_eq!(rt; is_refused, !is_taken, "{parentheses}");
+        let count = sites(rt.alloc(), &rule).ok().map(|found| found.len());
+        assert_eq!(rt; count, is_taken.then_some(2), "{parentheses}");
     }
     Ok(())
 }
