@@ -3,6 +3,7 @@
 ghost use Rattle.ecd_fixed.specs.ExtentsStanding.{ExtentsAreKept};
 ghost use Rattle.ecd_fixed.specs.Framed.{FramedEndOnce, ValidIsFramed};
 ghost use Rattle.ecd_fixed.specs.Standing.{ComparisonIsKept, CopierIsKept, HeadWriterIsKept, HeadsAreKept, HeadsEnd, Utf8IsKept};
+ghost use Rattle.ecd_fixed.specs.Utf8.{StatesTell};
 ghost use Rattle.ecd_fixed.specs.Writes.{PutsAreWritten};
 
 /// What is put behind the functions over heads, under other names, changes nothing of them.
@@ -23,6 +24,11 @@ pub fn comparison_is_kept()
 /// What is put behind the functions that check UTF-8, under other names, changes nothing of them.
 pub fn utf8_is_kept()
     ensures { Utf8IsKept }
+{}
+
+/// Behind all bytes the state of `utf8_next` is the one between characters exactly where they are UTF-8.
+pub fn states_tell_utf8()
+    ensures { StatesTell }
 {}
 
 /// Every valid item is framed, and no encoding of a framed item begins another.
