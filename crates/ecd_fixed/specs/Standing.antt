@@ -78,7 +78,7 @@ pub record HeadWriterMeans (items : List CItem) : Type 0 where
 
 -- ---- laws
 
--- whatever is appended under other names changes nothing of them
+-- Whatever is appended, the functions over heads are still there. Where no function in it has one of their names, each of them still means the same.
 pub record HeadsAreKept : Type 0 where
   pub there : (items more : List CItem) → HeadsAreThere items → HeadsAreThere (items ++ more)
   pub mean : (items more : List CItem) → AreNew head_names more → HeadsMean items → HeadsMean (items ++ more)
@@ -87,22 +87,22 @@ pub record HeadsAreKept : Type 0 where
 abbrev pub HeadsEnd : Type 0
 HeadsEnd = (major lo hi at : ℕ) (bytes : List ℕ) → IsBytes bytes → IsEnd (HeadStands major lo hi bytes at) (end_within major lo hi at (head_at (drop at bytes)))
 
--- and nothing of the function that compares bytes
+-- the same of the function that compares bytes, by its name
 pub record ComparisonIsKept : Type 0 where
   pub there : (items more : List CItem) → IsAmong compare_bytes items → IsAmong compare_bytes (items ++ more)
   pub mean : (items more : List CItem) → IsNew (codes "compare_bytes") more → ComparesBytes (calls_of items (codes "compare_bytes")) → ComparesBytes (calls_of (items ++ more) (codes "compare_bytes"))
 
--- and nothing of the functions that check UTF-8
+-- the same of the functions that check UTF-8, by their names
 pub record Utf8IsKept : Type 0 where
   pub there : (items more : List CItem) → Utf8IsThere items → Utf8IsThere (items ++ more)
   pub mean : (items more : List CItem) → AreNew utf8_names more → Utf8Means items → Utf8Means (items ++ more)
 
--- and nothing of the functions that write heads
+-- the same of the functions that write heads and store numbers, by their names
 pub record HeadWriterIsKept : Type 0 where
   pub there : (items more : List CItem) → HeadWriterIsThere items → HeadWriterIsThere (items ++ more)
   pub mean : (items more : List CItem) → AreNew put_names more → HeadWriterMeans items → HeadWriterMeans (items ++ more)
 
--- and nothing of the function that copies bytes
+-- the same of the function that copies bytes, by its name
 pub record CopierIsKept : Type 0 where
   pub there : (items more : List CItem) → IsAmong copy_bytes items → IsAmong copy_bytes (items ++ more)
   pub mean : (items more : List CItem) → IsNew (codes "copy_bytes") more → CopiesBytes (calls_of items (codes "copy_bytes")) → CopiesBytes (calls_of (items ++ more) (codes "copy_bytes"))

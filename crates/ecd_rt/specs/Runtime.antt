@@ -35,7 +35,7 @@ runtime_functions depth = front_functions ++ (any_functions depth ++ writing_fun
 abbrev pub runtime_names : ℕ → List Name
 runtime_names depth = front_names ++ (any_names depth ++ writing_names)
 
--- all of them are there
+-- they are there, so that they may be called; of those that come with a depth each any_d
 pub record RuntimeIsThere (depth : ℕ) (items : List CItem) : Type 0 where
   pub heads : HeadsAreThere items
   pub extents : ExtentsAreThere items
@@ -55,7 +55,7 @@ pub record RuntimeMeans (depth : ℕ) (items : List CItem) : Type 0 where
   pub writer : HeadWriterMeans items
   pub copier : CopiesBytes (calls_of items (codes "copy_bytes"))
 
--- whatever is appended under other names changes nothing of them
+-- Whatever is appended, they are still there. Where no function in it has one of the names of all fixed functions, each of them still means the same.
 pub record RuntimeIsKept : Type 0 where
   pub there : (depth : ℕ) (items more : List CItem) → RuntimeIsThere depth items → RuntimeIsThere depth (items ++ more)
   pub mean : (depth : ℕ) (items more : List CItem) → AreNew (runtime_names depth) more → RuntimeMeans depth items → RuntimeMeans depth (items ++ more)
