@@ -1,5 +1,5 @@
 -- The functions over heads among the items of a program.
-use Rattle.std.specs.Prelude.{ℕ, ◌≡◌, List, [], ◌∷◌, ◌++◌, codes, drop, Some}
+use Rattle.std.specs.Prelude.{ℕ, ◌≡◌, ◌↔◌, List, [], ◌∷◌, ◌++◌, codes, drop, Some, Ok}
 use Rattle.std.specs.Int.{w16, w32, w64}
 use Rattle.ecd_cast.specs.declared.tree.Function.{Function}
 use Rattle.ecd_cast.specs.declared.tree.CItem.{CItem}
@@ -7,10 +7,11 @@ use Rattle.ecd_cast.specs.Memory.{Name}
 use Rattle.ecd_cast.specs.Kept.{IsNew}
 use Rattle.ecd_cast.specs.Meaning.{calls_of}
 use Rattle.ecd_cast.specs.Validity.{functions_of, function_named}
+use Rattle.ecd_head.specs.declared.Head.{Head}
 use Rattle.ecd_head.specs.Fault.{head_at}
 use Rattle.ecd_fixed.specs.Windows.{IsBytes, IsEnd}
 use Rattle.ecd_fixed.specs.Firsts.{size_from, least_from}
-use Rattle.ecd_fixed.specs.Meanings.{LoadsNumber, OfFirst, HeadArgument, HeadEnd, HeadWithin, HeadStands, end_within}
+use Rattle.ecd_fixed.specs.Meanings.{LoadsNumber, OfFirst, HeadArgument, HeadEnd, HeadWithin, HeadIsAt, HeadStands, end_within}
 use Rattle.ecd_fixed.specs.Compare.{compare_bytes, ComparesBytes}
 use Rattle.ecd_fixed.specs.Utf8.{utf8_names, utf8_begin, utf8_next, utf8_valid, BeginsUtf8, GoesOnUtf8, ChecksUtf8}
 use Rattle.ecd_fixed.specs.HeadWriter.{put_names, head_length, store_be16, store_be32, store_be64, put_head, HeadLength, StoresNumber, WritesHead}
@@ -82,6 +83,10 @@ pub record HeadWriterMeans (items : List CItem) : Type 0 where
 pub record HeadsAreKept : Type 0 where
   pub there : (items more : List CItem) → HeadsAreThere items → HeadsAreThere (items ++ more)
   pub mean : (items more : List CItem) → AreNew head_names more → HeadsMean items → HeadsMean (items ++ more)
+
+-- a head and its size are read at a place exactly where the head can be written and its shortest bytes, which are so many, stand there
+abbrev pub HeadsStand : Type 0
+HeadsStand = (at size : ℕ) (bytes : List ℕ) (head : Head) → IsBytes bytes → (head_at (drop at bytes) ≡ Ok (head, size)) ↔ HeadIsAt bytes at size head
 
 -- what head_within answers is the one place where such a head ends, or 0
 abbrev pub HeadsEnd : Type 0

@@ -2,7 +2,7 @@
 
 ghost use Rattle.ecd_fixed.specs.ExtentsStanding.{ExtentsAreKept};
 ghost use Rattle.ecd_fixed.specs.Framed.{FramedEndOnce, ValidIsFramed};
-ghost use Rattle.ecd_fixed.specs.Standing.{ComparisonIsKept, CopierIsKept, HeadWriterIsKept, HeadsAreKept, HeadsEnd, Utf8IsKept};
+ghost use Rattle.ecd_fixed.specs.Standing.{ComparisonIsKept, CopierIsKept, HeadWriterIsKept, HeadsAreKept, HeadsEnd, HeadsStand, Utf8IsKept};
 ghost use Rattle.ecd_fixed.specs.Utf8.{StatesTell};
 ghost use Rattle.ecd_fixed.specs.Writes.{PutsAreWritten};
 
@@ -11,6 +11,11 @@ ghost use Rattle.ecd_fixed.specs.Writes.{PutsAreWritten};
 /// same.
 pub fn heads_are_kept()
     ensures { HeadsAreKept }
+{}
+
+/// A head is read at a place exactly where it can be written and its shortest bytes stand there.
+pub fn heads_stand()
+    ensures { HeadsStand }
 {}
 
 /// `head_within` answers the one place where a head of its kind ends, or 0.
