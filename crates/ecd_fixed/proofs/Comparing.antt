@@ -1,11 +1,11 @@
 -- What the function that compares bytes answers, and that it is valid behind any items.
-use Rattle.std.proofs.Common.{◌≡◌, ℕ, suc, ◌+◌, ◌*◌, ◌<◌, ◌≤◌, List, [], ◌∷◌, ◌++◌, length, refl, ap, sym, subst, ◌∙◌, arith, true, false, drop, get_or, add-one, rules}
+use Rattle.std.proofs.Common.{◌≡◌, ℕ, suc, ◌+◌, ◌*◌, min, ◌<◌, ◌≤◌, inl, inr, List, [], ◌∷◌, ◌++◌, length, refl, ap, sym, subst, ◌∙◌, arith, true, false, drop, get_or, add-one, rules}
 use Rattle.std.specs.Prelude.{codes, nat_eq, nat_lt}
 use Rattle.std.specs.Ordering.{nat_cmp}
 use Rattle.std.specs.Cmp.Lexicographic.{slice_cmp}
 use Rattle.std.specs.declared.cmp.Ordering.{Ordering}
 use Rattle.std.specs.declared.cmp.Ordering.TheVariants.{Less, Equal, Greater}
-use Rattle.std.proofs.lemmas.Bool.{eqb-true, eqb-false, ltb-true, ltb-false}
+use Rattle.std.proofs.lemmas.Bool.{cases_lt, eqb-true, eqb-false, ltb-true, ltb-false}
 use Rattle.std.proofs.lemmas.Bool.Decides.{nat_tests}
 use Rattle.std.proofs.lemmas.List.{drop_all}
 use denote.Hole.Carrier.{hidden}
@@ -29,6 +29,7 @@ use Rattle.ecd_fixed.specs.Windows.{Window}
 use Rattle.ecd_fixed.specs.Compare.{compare_bytes, compare_turn, compare_lengths, order_number, ComparesBytes}
 use Rattle.ecd_fixed.specs.Standing.{IsAmong}
 use Rattle.ecd_fixed.proofs.Numbers.{long, one_byte, from_at}
+use Rattle.ecd_fixed.proofs.Stopping.{stops_rule}
 use Rattle.ecd_fixed.proofs.Valid.{IsFree}
 use Rattle.ecd_fixed.proofs.Placed.{last_call, free_of, named_behind}
 
@@ -105,13 +106,28 @@ module _ (calls : Calls) (k block offset len other other_offset other_len : ℕ)
       let no_right : drop len right ≡ [] = drop_all len right (omega (arith, long u, ltb-false len other_len h1)) in
       return_rule {n = 1} (record { is = refl }) (decided Equal len e (rw (no_left, no_right) refl)))
 
-  pub compare_answers : Answers (called calls k compare_bytes handed m) Answer (7 * (len + 1))
+  -- the turn in which the right side has ended
+  last : other_len < len → slice_cmp nat_cmp (drop other_len left) (drop other_len right) ≡ slice_cmp nat_cmp left right → Works calls m compare_turn (((v.at, Num other_len) ∷ []) ∷ scopes) Answer 2
+  unfolding exprs.shape-the_row-Expr-0 exprs.hidden-the_row-Expr-0 hidden
+  last lt e =
+      let none : drop other_len right ≡ [] = drop_all other_len right (omega (arith, long u)) in
+      guard_rule {k = 0} (nat_eq other_len other_len) 2 (record { tells = refl }) (record { is = refl }) (λ h. decided Greater other_len e (rw (left_at other_len lt, none) refl)) (λ h. absurd (eqb-false other_len other_len h refl))
+
+  each_turn : (i : ℕ) (env : Scopes) → i < len → Before i env → Goes calls m compare_turn (((v.at, Num i) ∷ []) ∷ env) Answer (λ e. Before (i + 1) (leave e)) 6
+  each_turn i env lt h = subst (λ (s : Scopes). Goes calls m compare_turn (((v.at, Num i) ∷ []) ∷ s) Answer (λ e. Before (i + 1) (leave e)) 6) (sym h.0) (turn i lt h.1 h.2)
+
+  pub compare_answers : Answers (called calls k compare_bytes handed m) Answer (7 * (min len other_len + 1))
   unfolding compare_bytes exprs.shape-the_row-Expr-0 exprs.hidden-the_row-Expr-0 hidden
-  compare_answers = called_rule calls m k compare_bytes handed Answer (7 * (len + 1)) (
-      works_within (suc (len * 7 + 3)) (7 * (len + 1)) (omega arith) (
-      for_rule len 6 3 Before refl (refl, omega arith, refl)
-      (λ i env lt h. subst (λ (s : Scopes). Goes calls m compare_turn (((v.at, Num i) ∷ []) ∷ s) Answer (λ e. Before (i + 1) (leave e)) 6) (sym h.0) (turn i lt h.1 h.2))
-      (λ env h. subst (λ (s : Scopes). Works calls m compare_lengths s Answer 3) (sym h.0) (behind h.1 h.2))))
+  compare_answers = called_rule calls m k compare_bytes handed Answer (7 * (min len other_len + 1)) (
+      elim (cases_lt other_len len) [
+        | inl lt ↦
+            works_within (suc (other_len * 7 + 3)) (7 * (min len other_len + 1)) (omega (arith, lt)) (
+            stops_rule len other_len 6 2 Before refl lt (refl, omega arith, refl) (λ i env below h. each_turn i env (omega (arith, lt, below)) h)
+            (λ env h. subst (λ (s : Scopes). Works calls m compare_turn (((v.at, Num other_len) ∷ []) ∷ s) Answer 2) (sym h.0) (last lt h.2)))
+        | inr le ↦
+            works_within (suc (len * 7 + 3)) (7 * (min len other_len + 1)) (omega (arith, le)) (
+            for_rule len 6 3 Before refl (refl, omega arith, refl) each_turn (λ env h. subst (λ (s : Scopes). Works calls m compare_lengths s Answer 3) (sym h.0) (behind h.1 h.2)))
+      ])
 
 -- ---- behind any items
 

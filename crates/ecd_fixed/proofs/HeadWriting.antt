@@ -269,6 +269,9 @@ module _ (old : List CItem) where
   unfolding store_be16 store_be32 store_be64 put_head
   writer_means = record {
     length = kept HeadLength old first_1 (AFunction store_be16 ∷ AFunction store_be32 ∷ AFunction store_be64 ∷ AFunction put_head ∷ []) (codes "head_length") (refl, (refl, (refl, (refl, tt)))) length_means;
+    be16 = kept (StoresNumber w16 3) old first_2 (AFunction store_be32 ∷ AFunction store_be64 ∷ AFunction put_head ∷ []) (codes "store_be16") (refl, (refl, (refl, tt))) be16_means;
+    be32 = kept (StoresNumber w32 9) old first_3 (AFunction store_be64 ∷ AFunction put_head ∷ []) (codes "store_be32") (refl, (refl, tt)) be32_means;
+    be64 = kept (StoresNumber w64 21) old first_4 (AFunction put_head ∷ []) (codes "store_be64") (refl, tt) be64_means;
     head = head_means;
   }
 
@@ -295,4 +298,10 @@ module _ (old : List CItem) (new : AreNew put_names old) where
 
   pub writer_is_there : HeadWriterIsThere (old ++ put_functions)
   unfolding head_length store_be16 store_be32 store_be64 put_head
-  writer_is_there = record { length = among old put_functions head_length (codes "head_length") refl new.0 refl; head = among old put_functions put_head (codes "put_head") refl new.1.1.1.1.0 refl }
+  writer_is_there = record {
+    length = among old put_functions head_length (codes "head_length") refl new.0 refl;
+    be16 = among old put_functions store_be16 (codes "store_be16") refl new.1.0 refl;
+    be32 = among old put_functions store_be32 (codes "store_be32") refl new.1.1.0 refl;
+    be64 = among old put_functions store_be64 (codes "store_be64") refl new.1.1.1.0 refl;
+    head = among old put_functions put_head (codes "put_head") refl new.1.1.1.1.0 refl;
+  }

@@ -6,6 +6,7 @@ pub mod Stands
 pub mod Kept
 pub mod Valid
 pub mod Placed
+pub mod Stopping
 pub mod Comparing
 pub mod States
 pub mod Texts

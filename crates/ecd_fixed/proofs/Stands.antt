@@ -1,5 +1,5 @@
--- Where head_within finds a head, one stands, and nowhere else.
-use Rattle.std.proofs.Common.{◌≡◌, ℕ, ◌+◌, ◌<◌, ◌≤◌, List, length, refl, ap, sym, arith, Bool, true, false, cond, drop}
+-- Where a head is read, and where head_within finds one, its shortest bytes stand, and nowhere else.
+use Rattle.std.proofs.Common.{◌≡◌, ℕ, ◌+◌, ◌<◌, ◌≤◌, List, length, refl, ap, sym, ◌∙◌, arith, Bool, true, false, cond, drop}
 use Rattle.std.specs.Prelude.{nat_eq, nat_le, ◌&&◌, ◌≢◌, Result, Ok, Err}
 use Rattle.std.proofs.lemmas.Bool.Decides.{nat_tests}
 use Rattle.ecd_head.specs.declared.HeadFault.{HeadFault}
@@ -9,14 +9,36 @@ use Rattle.ecd_head.specs.Place.{StandsAt}
 use Rattle.ecd_head.specs.Fault.{head_at}
 use Rattle.ecd_head.proofs.Heads.{head_takes, head_again, IsBytes-drop}
 use Rattle.ecd_fixed.specs.Windows.{IsBytes}
-use Rattle.ecd_fixed.specs.Meanings.{HeadStands, end_within}
-use Rattle.ecd_fixed.specs.Standing.{HeadsEnd}
+use Rattle.ecd_fixed.specs.Meanings.{HeadIsAt, HeadStands, end_within}
+use Rattle.ecd_fixed.specs.Standing.{HeadsStand, HeadsEnd}
 
 head_long : (major argument : ℕ) → 0 < length (head_bytes major argument)
 unfolding head_bytes
 head_long major argument = grind (arith, nat_tests)
 
--- the test of head_within
+-- ---- any head
+
+module _ (at size : ℕ) (bytes : List ℕ) (head : Head) where
+  read_stands : IsBytes bytes → head_at (drop at bytes) ≡ Ok (head, size) → HeadIsAt bytes at size head
+  read_stands fits e =
+      let t = head_takes (drop at bytes) head size (IsBytes-drop at bytes fits) e in
+      record {
+        writable = t.writable;
+        stands = record { there = (drop size (drop at bytes), t.whole); behind = ap (λ (n : ℕ). at + n) (sym t.long) };
+      }
+
+  stands_read : HeadIsAt bytes at size head → head_at (drop at bytes) ≡ Ok (head, size)
+  stands_read s =
+      let again : head_at (drop at bytes) ≡ Ok (head, length (head_bytes head.major head.arg)) = rw s.stands.there.1 (head_again head.major head.arg s.stands.there.0 s.writable) in
+      let long : length (head_bytes head.major head.arg) ≡ size = omega (arith, s.stands.behind) in
+      again ∙ ap (λ (n : ℕ). Ok (head, n)) long
+
+pub heads_stand : HeadsStand
+heads_stand at size bytes head fits = ((λ e. read_stands at size bytes head fits e), (λ s. stands_read at size bytes head s))
+
+-- ---- a head that head_within asks for
+
+-- its test
 abbrev asked_for : (major lo hi : ℕ) → Head → Bool
 asked_for major lo hi head = nat_eq head.major major && (nat_le lo head.arg && nat_le head.arg hi)
 

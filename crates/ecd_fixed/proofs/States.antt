@@ -6,7 +6,7 @@ use Rattle.std.proofs.Math.Utf8.{scalar, scalars, encode, encodes, scalar_cases,
 use Rattle.std.proofs.lemmas.Bool.{and_parts, cases_lt, cases_eq, lt-ltb, le-ltb, eqb-false, eqb-true}
 use Rattle.std.proofs.lemmas.Bool.Decides.{nat_tests}
 use Rattle.std.proofs.lemmas.Str.{IsUtf8-append, IsUtf8-nil, IsUtf8-encode, IsUtf8-from_is_utf8, is_utf8-from_IsUtf8}
-use Rattle.ecd_fixed.specs.Utf8.{begun, gone_on, next_state, state_behind, one_where}
+use Rattle.ecd_fixed.specs.Utf8.{begun, gone_on, next_state, state_behind, one_where, StatesTell}
 
 abbrev pub Follows : ℕ → Type 0
 Follows b = (128 ≤ b) × (b < 192)
@@ -313,6 +313,14 @@ sound : (n : ℕ) (bs : List ℕ) → length bs ≤ n → state_behind 0 bs ≡ 
 sound n [] le e = IsUtf8-nil
 sound zero (a ∷ xs) le e = absurd (omega (arith, le))
 sound (suc n) (a ∷ xs) le e = begins n (sound n) a xs (omega (arith, le)) e
+
+-- ---- the law
+
+pub states_tell : StatesTell
+states_tell bytes = (
+  (λ e. is_utf8-from_IsUtf8 bytes (sound (length bytes) bytes (omega arith) e)),
+  (λ k. let text = IsUtf8-from_is_utf8 bytes k in ap (state_behind 0) (sym text.1.1) ∙ complete text.0 text.1.0),
+)
 
 -- ---- the test
 

@@ -19,12 +19,11 @@ use Rattle.ecd_cast.specs.Rules.{Goes, Works}
 use Rattle.ecd_cast.proofs.Rules.{return_rule, let_rule, call_rule, if_rule, guard_rule, for_rule, let_goes, assign_call_goes, guard_goes, nil_goes, called_rule, works_within}
 use Rattle.ecd_fixed.specs.Variables as v
 use Rattle.ecd_fixed.specs.Windows.{Window}
-use Rattle.ecd_fixed.specs.Meanings.{OfFirst}
-use Rattle.ecd_fixed.specs.Utf8.{begun, gone_on, next_state, state_behind, one_where, utf8_begin, utf8_next, utf8_valid, valid_turn, valid_end, utf8_names, utf8_functions, GoesOnUtf8, ChecksUtf8}
-use Rattle.ecd_fixed.specs.Standing.{AreNew, IsAmong}
+use Rattle.ecd_fixed.specs.Utf8.{begun, gone_on, next_state, state_behind, one_where, utf8_begin, utf8_next, utf8_valid, valid_turn, valid_end, utf8_names, utf8_functions, BeginsUtf8, GoesOnUtf8, ChecksUtf8}
+use Rattle.ecd_fixed.specs.Standing.{AreNew, IsAmong, Utf8IsThere, Utf8Means}
 use Rattle.ecd_fixed.proofs.Numbers.{long, one_byte, from_at}
 use Rattle.ecd_fixed.proofs.Valid.{IsFree}
-use Rattle.ecd_fixed.proofs.Placed.{placed_last, free_behind, among}
+use Rattle.ecd_fixed.proofs.Placed.{placed_last, kept, free_behind, among}
 use Rattle.ecd_fixed.proofs.States.{text_is}
 
 -- ---- one byte on
@@ -48,7 +47,7 @@ begin_answers calls k b m = called_rule calls m k utf8_begin (Num b ∷ []) (λ 
     guard_rule (nat_eq b 244) 7 (record { tells = refl }) (record { is = refl }) (λ h. rw (h1, h2, h3, h4, h5, h6, h7, h8, h) refl) (λ h9.
     return_rule {n = 8} (record { is = refl }) (rw (h1, h2, h3, h4, h5, h6, h7, h8, h9) refl)))))))))))
 
-pub next_answers : (calls : Calls) (k s b : ℕ) (m : Memory) → OfFirst begun 19 (calls (codes "utf8_begin")) → Answers (called calls k utf8_next (Num s ∷ Num b ∷ []) m) (λ n. n ≡ next_state s b) 22
+pub next_answers : (calls : Calls) (k s b : ℕ) (m : Memory) → BeginsUtf8 (calls (codes "utf8_begin")) → Answers (called calls k utf8_next (Num s ∷ Num b ∷ []) m) (λ n. n ≡ next_state s b) 22
 unfolding utf8_next next_state gone_on exprs.shape-the_row-Expr-0 exprs.hidden-the_row-Expr-0 hidden
 next_answers calls k s b m begins = called_rule calls m k utf8_next (Num s ∷ Num b ∷ []) (λ n. n ≡ next_state s b) 22 (
     if_rule {k = 21} (nat_eq s 0) (record { tells = refl })
@@ -152,17 +151,25 @@ unfolding utf8_valid exprs.shape-the_row-Expr-0 exprs.hidden-the_row-Expr-0 hidd
 valid_spelled = search rules
 
 module _ (old : List CItem) where
-  begin_means : OfFirst begun 19 (calls_of (old ++ first_1) (codes "utf8_begin"))
+  begin_means : BeginsUtf8 (calls_of (old ++ first_1) (codes "utf8_begin"))
   unfolding utf8_begin
-  begin_means = placed_last (OfFirst begun 19) old [] utf8_begin (record { answers = λ first m. begin_answers (calls_of (old ++ [])) (0 + length (old ++ [])) first m })
+  begin_means = placed_last BeginsUtf8 old [] utf8_begin (record { answers = λ byte m. begin_answers (calls_of (old ++ [])) (0 + length (old ++ [])) byte m })
 
   next_means : GoesOnUtf8 (calls_of (old ++ first_2) (codes "utf8_next"))
   unfolding utf8_next
   next_means = placed_last GoesOnUtf8 old first_1 utf8_next (record { answers = λ s b m. next_answers (calls_of (old ++ first_1)) (0 + length (old ++ first_1)) s b m begin_means })
 
-  pub utf8_means : ChecksUtf8 (calls_of (old ++ utf8_functions) (codes "utf8_valid"))
+  valid_means : ChecksUtf8 (calls_of (old ++ utf8_functions) (codes "utf8_valid"))
   unfolding utf8_valid
-  utf8_means = placed_last ChecksUtf8 old first_2 utf8_valid (record { answers = λ block offset len m bytes w. valid_answers (calls_of (old ++ first_2)) (0 + length (old ++ first_2)) block offset len m bytes w next_means })
+  valid_means = placed_last ChecksUtf8 old first_2 utf8_valid (record { answers = λ block offset len m bytes w. valid_answers (calls_of (old ++ first_2)) (0 + length (old ++ first_2)) block offset len m bytes w next_means })
+
+  pub utf8_means : Utf8Means (old ++ utf8_functions)
+  unfolding utf8_next utf8_valid
+  utf8_means = record {
+    begins = kept BeginsUtf8 old first_1 (AFunction utf8_next ∷ AFunction utf8_valid ∷ []) (codes "utf8_begin") (refl, (refl, tt)) begin_means;
+    goes_on = kept GoesOnUtf8 old first_2 (AFunction utf8_valid ∷ []) (codes "utf8_next") (refl, tt) next_means;
+    valid = valid_means;
+  }
 
 module _ (old : List CItem) (new : AreNew utf8_names old) where
   pub begin_valid : IsValidAfter (old ++ []) (AFunction utf8_begin)
@@ -176,6 +183,10 @@ module _ (old : List CItem) (new : AreNew utf8_names old) where
   unfolding utf8_begin utf8_next
   valid_valid = valid_item (old ++ first_2) (free_behind old first_2 (codes "utf8_valid") new.1.1.0 (refl, (refl, tt))) (among old first_2 utf8_next (codes "utf8_next") refl new.1.0 refl)
 
-  pub utf8_there : IsAmong utf8_valid (old ++ utf8_functions)
+  pub utf8_there : Utf8IsThere (old ++ utf8_functions)
   unfolding utf8_begin utf8_next utf8_valid
-  utf8_there = among old utf8_functions utf8_valid (codes "utf8_valid") refl new.1.1.0 refl
+  utf8_there = record {
+    begins = among old utf8_functions utf8_begin (codes "utf8_begin") refl new.0 refl;
+    goes_on = among old utf8_functions utf8_next (codes "utf8_next") refl new.1.0 refl;
+    valid = among old utf8_functions utf8_valid (codes "utf8_valid") refl new.1.1.0 refl;
+  }

@@ -1,5 +1,5 @@
 -- The function that compares bytes: its tree, and what it answers.
-use Rattle.std.specs.Prelude.{ℕ, ◌+◌, ◌*◌, ◌≡◌, List, [], ◌∷◌, codes}
+use Rattle.std.specs.Prelude.{ℕ, ◌+◌, ◌*◌, min, ◌≡◌, List, [], ◌∷◌, codes}
 use Rattle.std.specs.Ordering.{nat_cmp}
 use Rattle.std.specs.Cmp.Lexicographic.{slice_cmp}
 use Rattle.std.specs.declared.cmp.Ordering.{Ordering}
@@ -55,7 +55,7 @@ order_number Less = 0
 order_number Equal = 1
 order_number Greater = 2
 
--- The first bytes that differ decide, and bytes that begin others come before them. It takes at most seven steps for each byte of the left side, and seven more.
+-- The first bytes that differ decide, and bytes that begin others come before them. It takes at most seven steps for each byte of the shorter side, and seven more.
 pub record ComparesBytes (callee : Callee) : Type 0 where
   pub answers : (block offset len other other_offset other_len : ℕ) (m : Memory) (left right : List ℕ) → Window m block offset len left → Window m other other_offset other_len right →
-      Answers (callee (Ptr block offset ∷ Num len ∷ Ptr other other_offset ∷ Num other_len ∷ []) m) (λ n. n ≡ order_number (slice_cmp nat_cmp left right)) (7 * (len + 1))
+      Answers (callee (Ptr block offset ∷ Num len ∷ Ptr other other_offset ∷ Num other_len ∷ []) m) (λ n. n ≡ order_number (slice_cmp nat_cmp left right)) (7 * (min len other_len + 1))

@@ -17,7 +17,7 @@ pub record ExtentsMean (items : List CItem) : Type 0 where
   pub inside : ItemsInside (calls_of items (codes "items_inside"))
   pub end : ItemEnd (calls_of items (codes "item_end"))
 
--- whatever is appended under other names changes nothing of them
+-- Whatever is appended, they are still there. Where no function in it has one of their names, each of them still means the same.
 pub record ExtentsAreKept : Type 0 where
   pub there : (items more : List CItem) → ExtentsAreThere items → ExtentsAreThere (items ++ more)
   pub mean : (items more : List CItem) → AreNew extent_names more → ExtentsMean items → ExtentsMean (items ++ more)

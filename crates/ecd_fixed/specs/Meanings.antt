@@ -47,6 +47,11 @@ pub record HeadWithin (callee : Callee) : Type 0 where
   pub answers : (block offset len at major lo hi : ℕ) (m : Memory) (bytes : List ℕ) → Window m block offset len bytes → at ≤ len →
       Answers (callee (Ptr block offset ∷ Num len ∷ Num at ∷ Num major ∷ Num lo ∷ Num hi ∷ []) m) (λ n. n ≡ end_within major lo hi at (head_at (drop at bytes))) 94
 
+-- the shortest bytes of the head stand from a place on, and are so many
+pub record HeadIsAt (bytes : List ℕ) (at size : ℕ) (head : Head) : Type 0 where
+  pub writable : IsWritable head.major head.arg
+  pub stands : StandsAt bytes at (head_bytes head.major head.arg) (at + size)
+
 -- the shortest head of this major type with an argument from lo to hi stands from one place to another
 pub record HeadStands (major lo hi : ℕ) (bytes : List ℕ) (at e : ℕ) : Type 0 where
   pub argument : ℕ

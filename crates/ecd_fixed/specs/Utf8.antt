@@ -1,5 +1,5 @@
 -- The functions that check UTF-8: their trees, and what they answer.
-use Rattle.std.specs.Prelude.{ℕ, Bool, true, false, ◌+◌, ◌*◌, ◌≡◌, ◌&&◌, List, [], ◌∷◌, ◌++◌, codes, nat_lt, ◌==◌, if◌then◌else◌}
+use Rattle.std.specs.Prelude.{ℕ, Bool, true, false, ◌+◌, ◌*◌, ◌≡◌, ◌↔◌, ◌&&◌, List, [], ◌∷◌, ◌++◌, codes, nat_lt, ◌==◌, if◌then◌else◌}
 use Rattle.std.specs.Str.{is_utf8}
 use Rattle.ecd_cast.specs.declared.tree.Op.{Op}
 use Rattle.ecd_cast.specs.declared.tree.Op.TheVariants.{Eq, Lt, Gt, And}
@@ -139,6 +139,11 @@ utf8_names = codes "utf8_begin" ∷ codes "utf8_next" ∷ codes "utf8_valid" ∷
 
 -- ---- the answers
 
+-- the state behind the first byte of a character
+pub record BeginsUtf8 (callee : Callee) : Type 0 where
+  pub answers : (byte : ℕ) (m : Memory) → Answers (callee (Num byte ∷ []) m) (λ n. n ≡ begun byte) 19
+
+-- the state behind one more byte
 pub record GoesOnUtf8 (callee : Callee) : Type 0 where
   pub answers : (state byte : ℕ) (m : Memory) → Answers (callee (Num state ∷ Num byte ∷ []) m) (λ n. n ≡ next_state state byte) 22
 
@@ -150,3 +155,9 @@ one_where false = 0
 pub record ChecksUtf8 (callee : Callee) : Type 0 where
   pub answers : (block offset len : ℕ) (m : Memory) (bytes : List ℕ) → Window m block offset len bytes →
       Answers (callee (Ptr block offset ∷ Num len ∷ []) m) (λ n. n ≡ one_where (is_utf8 bytes)) (27 * (len + 1))
+
+-- ---- a law
+
+-- behind all bytes is a state between characters exactly where they are UTF-8
+abbrev pub StatesTell : Type 0
+StatesTell = (bytes : List ℕ) → (state_behind 0 bytes ≡ 0) ↔ (is_utf8 bytes ≡ true)

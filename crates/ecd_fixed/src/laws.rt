@@ -2,12 +2,20 @@
 
 ghost use Rattle.ecd_fixed.specs.ExtentsStanding.{ExtentsAreKept};
 ghost use Rattle.ecd_fixed.specs.Framed.{FramedEndOnce, ValidIsFramed};
-ghost use Rattle.ecd_fixed.specs.Standing.{ComparisonIsKept, CopierIsKept, HeadWriterIsKept, HeadsAreKept, HeadsEnd, Utf8IsKept};
+ghost use Rattle.ecd_fixed.specs.Standing.{ComparisonIsKept, CopierIsKept, HeadWriterIsKept, HeadsAreKept, HeadsEnd, HeadsStand, Utf8IsKept};
+ghost use Rattle.ecd_fixed.specs.Utf8.{StatesTell};
 ghost use Rattle.ecd_fixed.specs.Writes.{PutsAreWritten};
 
-/// What is put behind the functions over heads, under other names, changes nothing of them.
+/// Whatever is put behind them, `load_be16`, `load_be32`, `load_be64`, `head_size`, `head_least`, `head_argument`,
+/// `head_end` and `head_within` are still there. Where no function in it has one of these names, each still means the
+/// same.
 pub fn heads_are_kept()
     ensures { HeadsAreKept }
+{}
+
+/// A head is read at a place exactly where it can be written and its shortest bytes stand there.
+pub fn heads_stand()
+    ensures { HeadsStand }
 {}
 
 /// `head_within` answers the one place where a head of its kind ends, or 0.
@@ -15,14 +23,21 @@ pub fn heads_end()
     ensures { HeadsEnd }
 {}
 
-/// What is put behind the function that compares bytes, under other names, changes nothing of it.
+/// Whatever is put behind it, `compare_bytes` is still there. Where no function in it has this name, it still means the
+/// same.
 pub fn comparison_is_kept()
     ensures { ComparisonIsKept }
 {}
 
-/// What is put behind the functions that check UTF-8, under other names, changes nothing of them.
+/// Whatever is put behind them, `utf8_begin`, `utf8_next` and `utf8_valid` are still there. Where no function in it has
+/// one of these names, each still means the same.
 pub fn utf8_is_kept()
     ensures { Utf8IsKept }
+{}
+
+/// Behind all bytes the state of `utf8_next` is the one between characters exactly where they are UTF-8.
+pub fn states_tell_utf8()
+    ensures { StatesTell }
 {}
 
 /// Every valid item is framed, and no encoding of a framed item begins another.
@@ -31,17 +46,20 @@ pub fn framed_items()
     ensures once { FramedEndOnce }
 {}
 
-/// What is put behind the functions that find the end of an item, under other names, changes nothing of them.
+/// Whatever is put behind them, `own_end`, `items_inside` and `item_end` are still there. Where no function in it has
+/// one of these names, each still means the same.
 pub fn extents_are_kept()
     ensures { ExtentsAreKept }
 {}
 
-/// What is put behind the functions that write heads, under other names, changes nothing of them.
+/// Whatever is put behind them, `head_length`, `store_be16`, `store_be32`, `store_be64` and `put_head` are still there.
+/// Where no function in it has one of these names, each still means the same.
 pub fn head_writer_is_kept()
     ensures { HeadWriterIsKept }
 {}
 
-/// What is put behind the function that copies bytes, under other names, changes nothing of it.
+/// Whatever is put behind it, `copy_bytes` is still there. Where no function in it has this name, it still means the
+/// same.
 pub fn copier_is_kept()
     ensures { CopierIsKept }
 {}

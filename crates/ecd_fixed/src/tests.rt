@@ -221,7 +221,8 @@ fn compared<'a>(machine: &mut Machine<'a>, middle: u64, length: u64) -> Option<u
     };
     let right_len = Arg::Number(length.saturating_sub(middle));
     let args = [left, Arg::Number(middle), right, right_len];
-    let limit = middle.saturating_mul(7).saturating_add(7);
+    let shorter = middle.min(length.saturating_sub(middle));
+    let limit = shorter.saturating_mul(7).saturating_add(7);
     ask(machine, "compare_bytes", &args, limit)
 }
 

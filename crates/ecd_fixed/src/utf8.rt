@@ -4,12 +4,10 @@ ghost use Rattle.std.specs.Prelude.{◌≡◌, [], ◌∷◌, ◌++◌, IfOk, On
 ghost use Rattle.ecd_cast.specs.declared.tree.Expr.TheVariants.{Var as AVar};
 ghost use Rattle.ecd_cast.specs.declared.tree.Stmt.TheVariants.{Assign as AnAssign};
 ghost use Rattle.ecd_cast.specs.declared.tree.Source.TheVariants.{Call as FromCall};
-ghost use Rattle.ecd_cast.specs.Meaning.{calls_of};
 ghost use Rattle.ecd_fixed.specs.Shorthands as spec;
 ghost use Rattle.ecd_fixed.specs.Variables as v;
 ghost use Rattle.ecd_fixed.specs.Utf8 as trees;
-ghost use Rattle.ecd_fixed.specs.Utf8.{ChecksUtf8};
-ghost use Rattle.ecd_fixed.specs.Standing.{AreNew, IsAmong};
+ghost use Rattle.ecd_fixed.specs.Standing.{AreNew, Utf8IsThere, Utf8Means};
 
 use crate::shorthands::{answer_where, function, guard, let_number, number, pointer, where_call};
 use ecd_cast::build::{binary, give, load, name, one, var};
@@ -194,8 +192,8 @@ fn utf8_valid(alloc: Global) -> Result<Function, OutOfMemory>
 pub fn utf8_check(alloc: Global, builder: &mut Builder) -> Result<(), OutOfMemory>
     requires { AreNew trees.utf8_names builder.old }
     ensures items { OnOk result (builder.new ≡ builder.old ++ trees.utf8_functions) }
-    ensures there { OnOk result (IsAmong trees.utf8_valid builder.new) }
-    ensures mean { OnOk result (ChecksUtf8 (calls_of builder.new (codes "utf8_valid"))) }
+    ensures there { OnOk result (Utf8IsThere builder.new) }
+    ensures mean { OnOk result (Utf8Means builder.new) }
 {
     builder.push(CItem::Function(utf8_begin(alloc)?))?;
     builder.push(CItem::Function(utf8_next(alloc)?))?;

@@ -113,7 +113,7 @@ two_levels below = AFunction (items_end below) ∷ AFunction (pairs_end below) �
 
 module _ (old : List CItem) (there : FrontIsThere old) (new : AreNew (any_names 0) old) where
   pub valid_text : IsValidAfter (old ++ []) (AFunction text_end)
-  valid_text = text_valid (old ++ []) (free_behind old [] (codes "text_end") new.0 tt) (among_kept head_argument old [] there.heads.argument) (among_kept utf8_valid old [] there.utf8)
+  valid_text = text_valid (old ++ []) (free_behind old [] (codes "text_end") new.0 tt) (among_kept head_argument old [] there.heads.argument) (among_kept utf8_valid old [] there.utf8.valid)
 
   text_among : IsAmong text_end (old ++ one_leaf)
   unfolding text_end
@@ -187,7 +187,7 @@ module _ (old : List CItem) (mean : FrontMeans old) where
   text_means =
       let before : List CItem = old ++ [] in
       let arguments : HeadArgument (calls_of before (codes "head_argument")) = callee_kept HeadArgument old [] (codes "head_argument") tt mean.heads.argument in
-      let checks : ChecksUtf8 (calls_of before (codes "utf8_valid")) = callee_kept ChecksUtf8 old [] (codes "utf8_valid") tt mean.utf8 in
+      let checks : ChecksUtf8 (calls_of before (codes "utf8_valid")) = callee_kept ChecksUtf8 old [] (codes "utf8_valid") tt mean.utf8.valid in
       placed_last TextEnd old [] text_end (record {
         answers = λ block offset len at size end m bytes head w read is_end fits. text_answers (calls_of before) (0 + length before) block offset len at size end m bytes head w read is_end fits arguments checks;
       })

@@ -8,12 +8,12 @@ use Rattle.ecd_cast.specs.Meaning.{calls_of}
 use Rattle.ecd_fixed.specs.Heads.{head_functions, head_names}
 use Rattle.ecd_fixed.specs.Extents.{extent_functions, extent_names}
 use Rattle.ecd_fixed.specs.ExtentsStanding.{ExtentsAreThere, ExtentsMean}
-use Rattle.ecd_fixed.specs.Utf8.{utf8_functions, utf8_names, utf8_valid, ChecksUtf8}
+use Rattle.ecd_fixed.specs.Utf8.{utf8_functions, utf8_names}
 use Rattle.ecd_fixed.specs.Compare.{compare_bytes, ComparesBytes}
 use Rattle.ecd_fixed.specs.HeadWriter.{put_functions, put_names}
 use Rattle.ecd_fixed.specs.Copier.{copy_bytes, CopiesBytes}
-use Rattle.ecd_fixed.specs.Standing.{AreNew, IsAmong, HeadsAreThere, HeadsMean, HeadWriterIsThere, HeadWriterMeans}
-use Rattle.ecd_fixed.proofs.Kept.{callee_kept, among_kept, heads_are_kept, head_writer_is_kept}
+use Rattle.ecd_fixed.specs.Standing.{AreNew, IsAmong, HeadsAreThere, HeadsMean, Utf8IsThere, Utf8Means, HeadWriterIsThere, HeadWriterMeans}
+use Rattle.ecd_fixed.proofs.Kept.{callee_kept, among_kept, heads_are_kept, utf8_is_kept, head_writer_is_kept}
 use Rattle.ecd_fixed.proofs.Extended.{extents_are_kept}
 use Rattle.ecd_fixed.proofs.Placed.{new_behind}
 use Rattle.ecd_rt.specs.Names.{any_name}
@@ -32,7 +32,7 @@ pub front_stays : (items more : List CItem) → FrontIsThere items → FrontIsTh
 front_stays items more h = record {
   heads = heads_are_kept.there items more h.heads;
   extents = extents_are_kept.there items more h.extents;
-  utf8 = among_kept utf8_valid items more h.utf8;
+  utf8 = utf8_is_kept.there items more h.utf8;
   comparison = among_kept compare_bytes items more h.comparison;
 }
 
@@ -43,7 +43,7 @@ front_goes_on items more new h =
     record {
       heads = heads_are_kept.mean items more (first_names head_names (extent_names ++ (utf8_names ++ codes "compare_bytes" ∷ [])) more new) h.heads;
       extents = extents_are_kept.mean items more (first_names extent_names (utf8_names ++ codes "compare_bytes" ∷ []) more behind_heads) h.extents;
-      utf8 = callee_kept ChecksUtf8 items more (codes "utf8_valid") behind_extents.1.1.0 h.utf8;
+      utf8 = utf8_is_kept.mean items more (first_names utf8_names (codes "compare_bytes" ∷ []) more behind_extents) h.utf8;
       comparison = callee_kept ComparesBytes items more (codes "compare_bytes") behind_extents.1.1.1.0 h.comparison;
     }
 
@@ -125,19 +125,19 @@ module _ (old b1 : List CItem) (e1 : b1 ≡ old ++ head_functions) (new : AreNew
         pub front_is : b4 ≡ old ++ front_functions
         front_is = from_1 ∙ (ap (λ (l : List CItem). l ++ (extent_functions ++ (utf8_functions ++ comparing))) e1 ∙ append_assoc old head_functions (extent_functions ++ (utf8_functions ++ comparing)))
 
-        pub front_there : HeadsAreThere b1 → ExtentsAreThere b2 → IsAmong utf8_valid b3 → IsAmong compare_bytes b4 → FrontIsThere b4
+        pub front_there : HeadsAreThere b1 → ExtentsAreThere b2 → Utf8IsThere b3 → IsAmong compare_bytes b4 → FrontIsThere b4
         front_there heads extents utf8 comparison = record {
           heads = subst HeadsAreThere (sym from_1) (heads_are_kept.there b1 (extent_functions ++ (utf8_functions ++ comparing)) heads);
           extents = subst ExtentsAreThere (sym from_2) (extents_are_kept.there b2 (utf8_functions ++ comparing) extents);
-          utf8 = subst (IsAmong utf8_valid) (sym e4) (among_kept utf8_valid b3 comparing utf8);
+          utf8 = subst Utf8IsThere (sym e4) (utf8_is_kept.there b3 comparing utf8);
           comparison = comparison;
         }
 
-        pub front_means : HeadsMean b1 → ExtentsMean b2 → ChecksUtf8 (calls_of b3 (codes "utf8_valid")) → ComparesBytes (calls_of b4 (codes "compare_bytes")) → FrontMeans b4
+        pub front_means : HeadsMean b1 → ExtentsMean b2 → Utf8Means b3 → ComparesBytes (calls_of b4 (codes "compare_bytes")) → FrontMeans b4
         front_means heads extents utf8 comparison = record {
           heads = subst HeadsMean (sym from_1) (heads_are_kept.mean b1 (extent_functions ++ (utf8_functions ++ comparing)) heads_before heads);
           extents = subst ExtentsMean (sym from_2) (extents_are_kept.mean b2 (utf8_functions ++ comparing) extents_before extents);
-          utf8 = subst (λ (items : List CItem). ChecksUtf8 (calls_of items (codes "utf8_valid"))) (sym e4) (callee_kept ChecksUtf8 b3 comparing (codes "utf8_valid") utf8_before.1.1.0 utf8);
+          utf8 = subst Utf8Means (sym e4) (utf8_is_kept.mean b3 comparing utf8_before utf8);
           comparison = comparison;
         }
 

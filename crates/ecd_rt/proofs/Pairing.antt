@@ -1,5 +1,5 @@
 -- The functions that read the pairs of a map, over one that reads an item.
-use Rattle.std.proofs.Common.{◌≡◌, ℕ, suc, ◌+◌, ◌-◌, ◌*◌, ◌%◌, ◌<◌, ◌≤◌, List, [], ◌∷◌, ◌++◌, take, drop, Option, Some, None, Result, Ok, Err, Bool, true, false, refl, ap, sym, subst, ◌∙◌, arith}
+use Rattle.std.proofs.Common.{◌≡◌, ℕ, suc, ◌+◌, ◌-◌, ◌*◌, ◌%◌, min, ◌<◌, ◌≤◌, List, [], ◌∷◌, ◌++◌, take, drop, Option, Some, None, Result, Ok, Err, Bool, true, false, refl, ap, sym, subst, ◌∙◌, arith}
 use Rattle.std.specs.Prelude.{codes, nat_eq, nat_lt}
 use Rattle.std.specs.Ordering.{nat_cmp}
 use Rattle.std.specs.Cmp.Lexicographic.{slice_cmp}
@@ -13,9 +13,10 @@ use Rattle.ecd_cast.specs.declared.tree.Stmt.TheVariants.{Return}
 use Rattle.ecd_cast.specs.declared.value.Value.TheVariants.{Number as Num, Bytes as Ptr}
 use Rattle.ecd_cast.specs.Memory.{Memory}
 use Rattle.ecd_cast.specs.Expressions.{Scopes, Frame, modulus}
-use Rattle.ecd_cast.specs.Meaning.{Calls, called, leave}
-use Rattle.ecd_cast.specs.Ends.{Answers}
+use Rattle.ecd_cast.specs.Meaning.{Run, Calls, called, leave}
+use Rattle.ecd_cast.specs.Ends.{With, Answers}
 use Rattle.ecd_cast.specs.Rules.{Works, Goes}
+use Rattle.ecd_cast.proofs.Calculus.{ends_within}
 use Rattle.ecd_cast.proofs.Rules.{return_rule, let_rule, let_goes, assign_goes, call_goes, assign_call_goes, guard_goes, nil_goes, called_rule, works_within}
 use Rattle.ecd_keyorder.specs.declared.Order.TheVariants.{Bytewise}
 use Rattle.ecd_item.specs.declared.fault.Fault.{Fault}
@@ -34,6 +35,10 @@ use Rattle.ecd_rt.proofs.Windows.{part, inside}
 use Rattle.ecd_rt.proofs.Readers.{place_of, Advances, next_item, pairs_first, key_stop as no_key, order_stop as no_order, value_stop as no_value, pair_go}
 use Rattle.ecd_rt.proofs.Spending.{Turn, for_spends}
 use Rattle.ecd_rt.proofs.Following.{Follows, counted, known, paid_none, paid_found, paid_least}
+
+-- a comparison, paid by its left side alone
+left_paid : {r : Run} {P : ℕ → Type 0} (size other : ℕ) → Answers r P (7 * (min size other + 1)) → Answers r P (7 * (size + 1))
+left_paid {r} size other a = record { answer = a.answer; does = ends_within r (With a.answer) [] (7 * (min size other + 1)) (7 * (size + 1)) (omega arith) a.does; has = a.has }
 
 -- a difference that is not negative
 pub taken : (a b : ℕ) → b ≤ a → a < modulus → (a + modulus - b) % modulus ≡ a - b
@@ -111,7 +116,7 @@ module _ (read : Reader Item) (ahead : Advances read) (each deepest : ℕ) (call
         let_goes {n = t.at - here} {k = suc (7 * (size + 1) + suc (1 + c))} (record { is = rw less refl }) (
         call_goes {c = 7 * (size + 1)} {k = suc (1 + c)} (Ptr block (offset + key) ∷ Num size ∷ Ptr block (offset + here) ∷ Num (t.at - here) ∷ []) (λ o. o ≡ order_number (slice_cmp nat_cmp (key_at key size) (take (t.at - here) (drop here bytes))))
         (record { hands = λ p g. rw (win.there, inside win key (omega (arith, keyed)), inside win here within) refl })
-        (compares.answers block (offset + key) size block (offset + here) (t.at - here) m (key_at key size) (take (t.at - here) (drop here bytes)) (part win key size keyed) (part win here (t.at - here) (omega (arith, n.past, fits)))) (λ o eo.
+        (left_paid size (t.at - here) (compares.answers block (offset + key) size block (offset + here) (t.at - here) m (key_at key size) (take (t.at - here) (drop here bytes)) (part win key size keyed) (part win here (t.at - here) (omega (arith, n.past, fits))))) (λ o eo.
         guard_goes {k = c} (nat_lt 0 o) 0 (record { tells = refl }) (record { is = refl }) (λ b. stops o b (not_above (slice_cmp nat_cmp (key_at key size) (take (t.at - here) (drop here bytes))) o eo b)) (λ b.
         subst (λ (y : ℕ). Goes calls m (value_turn deepest) (((w.order, Num o) ∷ (v.size, Num (t.at - here)) ∷ (w.behind, Num y) ∷ (v.i, Num i) ∷ []) ∷ frame here key size ∷ []) P F c) (sym ex)
         (goes o (above (slice_cmp nat_cmp (key_at key size) (take (t.at - here) (drop here bytes))) o eo b)))))))

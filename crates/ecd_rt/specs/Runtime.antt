@@ -7,11 +7,11 @@ use Rattle.ecd_cast.specs.Meaning.{calls_of}
 use Rattle.ecd_fixed.specs.Heads.{head_functions, head_names}
 use Rattle.ecd_fixed.specs.Extents.{extent_functions, extent_names}
 use Rattle.ecd_fixed.specs.ExtentsStanding.{ExtentsAreThere, ExtentsMean}
-use Rattle.ecd_fixed.specs.Utf8.{utf8_functions, utf8_names, utf8_valid, ChecksUtf8}
+use Rattle.ecd_fixed.specs.Utf8.{utf8_functions, utf8_names}
 use Rattle.ecd_fixed.specs.Compare.{compare_bytes, ComparesBytes}
 use Rattle.ecd_fixed.specs.HeadWriter.{put_functions, put_names}
 use Rattle.ecd_fixed.specs.Copier.{copy_bytes, CopiesBytes}
-use Rattle.ecd_fixed.specs.Standing.{AreNew, IsAmong, HeadsAreThere, HeadsMean, HeadWriterIsThere, HeadWriterMeans}
+use Rattle.ecd_fixed.specs.Standing.{AreNew, IsAmong, HeadsAreThere, HeadsMean, Utf8IsThere, Utf8Means, HeadWriterIsThere, HeadWriterMeans}
 use Rattle.ecd_rt.specs.Trees.{any_functions, any_names}
 use Rattle.ecd_rt.specs.Standing.{AnyIsThere, AnyMeans}
 
@@ -35,11 +35,11 @@ runtime_functions depth = front_functions ++ (any_functions depth ++ writing_fun
 abbrev pub runtime_names : ℕ → List Name
 runtime_names depth = front_names ++ (any_names depth ++ writing_names)
 
--- all of them are there
+-- they are there, so that they may be called; of those that come with a depth each any_d
 pub record RuntimeIsThere (depth : ℕ) (items : List CItem) : Type 0 where
   pub heads : HeadsAreThere items
   pub extents : ExtentsAreThere items
-  pub utf8 : IsAmong utf8_valid items
+  pub utf8 : Utf8IsThere items
   pub comparison : IsAmong compare_bytes items
   pub any : AnyIsThere depth items
   pub writer : HeadWriterIsThere items
@@ -49,13 +49,13 @@ pub record RuntimeIsThere (depth : ℕ) (items : List CItem) : Type 0 where
 pub record RuntimeMeans (depth : ℕ) (items : List CItem) : Type 0 where
   pub heads : HeadsMean items
   pub extents : ExtentsMean items
-  pub utf8 : ChecksUtf8 (calls_of items (codes "utf8_valid"))
+  pub utf8 : Utf8Means items
   pub comparison : ComparesBytes (calls_of items (codes "compare_bytes"))
   pub any : AnyMeans depth items
   pub writer : HeadWriterMeans items
   pub copier : CopiesBytes (calls_of items (codes "copy_bytes"))
 
--- whatever is appended under other names changes nothing of them
+-- Whatever is appended, they are still there. Where no function in it has one of the names of all fixed functions, each of them still means the same.
 pub record RuntimeIsKept : Type 0 where
   pub there : (depth : ℕ) (items more : List CItem) → RuntimeIsThere depth items → RuntimeIsThere depth (items ++ more)
   pub mean : (depth : ℕ) (items more : List CItem) → AreNew (runtime_names depth) more → RuntimeMeans depth items → RuntimeMeans depth (items ++ more)

@@ -5,9 +5,8 @@ use Rattle.ecd_cast.specs.Meaning.{calls_of}
 use Rattle.ecd_fixed.specs.Heads.{head_argument}
 use Rattle.ecd_fixed.specs.Extents.{own_end}
 use Rattle.ecd_fixed.specs.ExtentsStanding.{ExtentsAreThere, ExtentsMean}
-use Rattle.ecd_fixed.specs.Utf8.{utf8_valid, ChecksUtf8}
 use Rattle.ecd_fixed.specs.Compare.{compare_bytes, ComparesBytes}
-use Rattle.ecd_fixed.specs.Standing.{IsAmong, HeadsAreThere, HeadsMean}
+use Rattle.ecd_fixed.specs.Standing.{IsAmong, HeadsAreThere, HeadsMean, Utf8IsThere, Utf8Means}
 use Rattle.ecd_rt.specs.Names.{any_name}
 use Rattle.ecd_rt.specs.Trees.{text_end, any_end}
 use Rattle.ecd_rt.specs.Meanings.{IsAny}
@@ -16,14 +15,14 @@ use Rattle.ecd_rt.specs.Meanings.{IsAny}
 pub record FrontIsThere (items : List CItem) : Type 0 where
   pub heads : HeadsAreThere items
   pub extents : ExtentsAreThere items
-  pub utf8 : IsAmong utf8_valid items
+  pub utf8 : Utf8IsThere items
   pub comparison : IsAmong compare_bytes items
 
 -- each of them means what it is to mean
 pub record FrontMeans (items : List CItem) : Type 0 where
   pub heads : HeadsMean items
   pub extents : ExtentsMean items
-  pub utf8 : ChecksUtf8 (calls_of items (codes "utf8_valid"))
+  pub utf8 : Utf8Means items
   pub comparison : ComparesBytes (calls_of items (codes "compare_bytes"))
 
 -- what a level stands on besides: the level below, and what looks into texts

@@ -1,9 +1,7 @@
 -- Each push finds its function valid behind the ones before it, and the last one leaves them all there.
-use Rattle.std.proofs.Common.{◌≡◌, List, [], ◌++◌, sym, subst, codes}
-use Rattle.ecd_cast.specs.declared.tree.CItem.{CItem}
-use Rattle.ecd_cast.specs.Meaning.{calls_of}
-use Rattle.ecd_fixed.specs.Utf8.{utf8_begin, utf8_next, utf8_valid, utf8_functions, ChecksUtf8}
-use Rattle.ecd_fixed.specs.Standing.{IsAmong}
+use Rattle.std.proofs.Common.{◌≡◌, [], ◌++◌, sym, subst}
+use Rattle.ecd_fixed.specs.Utf8.{utf8_begin, utf8_next, utf8_valid, utf8_functions}
+use Rattle.ecd_fixed.specs.Standing.{Utf8IsThere, Utf8Means}
 use Rattle.ecd_fixed.proofs.Placed.{begun, grown, valid_by, spelled_by}
 use Rattle.ecd_fixed.proofs.Texts.{first_1, first_2, begin_spelled, next_spelled, valid_spelled, begin_valid, next_valid, valid_valid, utf8_means, utf8_there}
 use Rattle.ecd_fixed.proofs.utf8.utf8_check.Goals as goal
@@ -54,7 +52,7 @@ returns-clause-there c =
     let is_1 : c.push.new.self ≡ old ++ first_1 = grown old [] old c.push.new.self utf8_begin c.in_ok-utf8_begin.field-0 is_0 c.in_ok-utf8_begin.ensures c.in_ok-push.ensures.ok in
     let is_2 : c.push-2.new.self ≡ old ++ first_2 = grown old first_1 c.push.new.self c.push-2.new.self utf8_next c.in_ok-utf8_next.field-0 is_1 c.in_ok-utf8_next.ensures c.in_ok-push-2.ensures.ok in
     let is_3 : c.push-3.new.self ≡ old ++ utf8_functions = grown old first_2 c.push-2.new.self c.push-3.new.self utf8_valid c.in_ok-utf8_valid.field-0 is_2 c.in_ok-utf8_valid.ensures c.in_ok-push-3.ensures.ok in
-    subst (IsAmong utf8_valid) (sym is_3) (utf8_there old c.requires)
+    subst Utf8IsThere (sym is_3) (utf8_there old c.requires)
 
 pub returns-clause-mean : goal.returns-clause-mean
 returns-clause-mean c =
@@ -63,4 +61,4 @@ returns-clause-mean c =
     let is_1 : c.push.new.self ≡ old ++ first_1 = grown old [] old c.push.new.self utf8_begin c.in_ok-utf8_begin.field-0 is_0 c.in_ok-utf8_begin.ensures c.in_ok-push.ensures.ok in
     let is_2 : c.push-2.new.self ≡ old ++ first_2 = grown old first_1 c.push.new.self c.push-2.new.self utf8_next c.in_ok-utf8_next.field-0 is_1 c.in_ok-utf8_next.ensures c.in_ok-push-2.ensures.ok in
     let is_3 : c.push-3.new.self ≡ old ++ utf8_functions = grown old first_2 c.push-2.new.self c.push-3.new.self utf8_valid c.in_ok-utf8_valid.field-0 is_2 c.in_ok-utf8_valid.ensures c.in_ok-push-3.ensures.ok in
-    subst (λ (items : List CItem). ChecksUtf8 (calls_of items (codes "utf8_valid"))) (sym is_3) (utf8_means old)
+    subst Utf8Means (sym is_3) (utf8_means old)
