@@ -122,20 +122,19 @@ fn program(alloc: Global, depth: u8) -> Result<Valid, OutOfMemory>
     Ok(builder.finish())
 }
 
-/// What `any_` of a depth answers at a place of some bytes, where it may take the steps of so many bytes.
-fn any_end(
+/// What a function answers at a place of some bytes within so many steps.
+fn answer(
     alloc: Global,
     valid: &Valid,
-    depth: u8,
+    name: &str,
     bytes: &[u8],
     at: u64,
-    paid_by: u64,
+    steps: u64,
 ) -> Result<Option<u64>, OutOfMemory> {
     let mut blocks = BlockList::new(alloc);
     blocks.push(Block::Fixed(bytes))?;
     let mut machine = Machine::prepare(alloc, valid, blocks)?;
-    let name = format!(in alloc; "any_{depth}")?;
-    let Some(function) = valid.function(name.as_str()) else {
+    let Some(function) = valid.function(name) else {
         return Ok(None);
     };
     let start = Arg::Bytes {
@@ -146,12 +145,33 @@ fn any_end(
     if !machine.fits(function, &args) {
         return Ok(None);
     }
-    let steps = 162 * (depth as u64 + 1);
-    Ok(
-        machine
-            .call(function, &args, Some(paid_by.saturating_mul(steps)))
-            .ok(),
-    )
+    Ok(machine.call(function, &args, Some(steps)).ok())
+}
+
+/// What `any_` of a depth answers at a place of some bytes, where it may take the steps of so many bytes.
+fn any_end(
+    alloc: Global,
+    valid: &Valid,
+    depth: u8,
+    bytes: &[u8],
+    at: u64,
+    paid_by: u64,
+) -> Result<Option<u64>, OutOfMemory> {
+    let name = format!(in alloc; "any_{depth}")?;
+    let each = 162 * (depth as u64 + 1);
+    let steps = paid_by.saturating_mul(each);
+    answer(alloc, valid, name.as_str(), bytes, at, steps)
+}
+
+/// What `item_end` answers at the front of some bytes, where it may look at so many of them.
+fn item_end(
+    alloc: Global,
+    valid: &Valid,
+    bytes: &[u8],
+    looked_at: u64,
+) -> Result<Option<u64>, OutOfMemory> {
+    let steps = looked_at.saturating_mul(144).saturating_add(144);
+    answer(alloc, valid, "item_end", bytes, 0, steps)
 }
 
 /// Whether `any_` of a depth and the reader of items find the same end at the front of some bytes, or none.
@@ -224,6 +244,52 @@ fn the_greatest_depth_is_thirty_two(rt: HostRuntime) -> Result<(), Fail> {
     assert_eq!(rt; any_end(alloc, &valid, 32, &nested, 1, 34)?, Some(0));
     assert_eq!(rt; any_end(alloc, &valid, 31, &nested, 2, 33)?, Some(0));
     assert_eq!(rt; any_end(alloc, &valid, 31, &nested, 3, 31)?, Some(34));
+    Ok(())
+}
+
+/// Whether `item_end` finds nothing in any of the first bytes that are fewer than so many.
+fn is_refused_before(
+    alloc: Global,
+    valid: &Valid,
+    bytes: &[u8],
+    behind: usize,
+) -> Result<bool, OutOfMemory> {
+    for (length, _) in bytes.iter().enumerate() {
+        let found = item_end(alloc, valid, &bytes[..length], length as u64)?;
+        if length < behind && found != Some(0) {
+            return Ok(false);
+        }
+    }
+    Ok(true)
+}
+
+#[test]
+fn item_end_ends_valid_items_and_none_that_is_cut_off(rt: HostRuntime) -> Result<(), Fail> {
+    let alloc = rt.alloc();
+    let valid = program(alloc, 0)?;
+    for bytes in ROWS.iter() {
+        match read_item(alloc, bytes, 0, 64) {
+            Ok((_, behind)) => {
+                let end = behind as u64;
+                let found = item_end(alloc, &valid, bytes, end)?;
+                assert_eq!(rt; found, Some(end));
+                assert!(rt; is_refused_before(alloc, &valid, bytes, behind)?);
+            }
+            Err(ItemFault::At { .. }) => {}
+            Err(ItemFault::OutOfMemory) => return Err(OutOfMemory.into()),
+        }
+    }
+    Ok(())
+}
+
+/// From `any_0` down to `load_be16` seven functions run inside each other, and two more for each level: an `any_d` and
+/// the items or pairs that it calls for.
+#[test]
+fn the_call_depth_grows_by_two_a_level(rt: HostRuntime) -> Result<(), Fail> {
+    let alloc = rt.alloc();
+    assert_eq!(rt; program(alloc, 0)?.call_depth(), 7);
+    assert_eq!(rt; program(alloc, 1)?.call_depth(), 9);
+    assert_eq!(rt; program(alloc, 32)?.call_depth(), 71);
     Ok(())
 }
 
