@@ -28,7 +28,7 @@ IsNoSocket name = is_socket name ≡ false
 abbrev pub NamesAreNoSockets : Type 0
 NamesAreNoSockets = AllByRecursion IsNoSocket all_names
 
--- the rule has no parameters, and what it stands for is one type
+-- the rule is a definition without parameters, of an entry without occurrence and key
 pub record DefinesType (rule : Rule) : Type 0 where
   pub params : rule.params ≡ []
   pub assign : rule.assign ≡ Define

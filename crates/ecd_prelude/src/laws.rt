@@ -8,7 +8,7 @@ pub fn names()
     ensures no_sockets { NamesAreNoSockets }
 {}
 
-/// Each rule is a definition without parameters, of a type without occurrence and key.
+/// Each rule is a definition without parameters, of an entry without occurrence and key.
 pub fn rules()
     ensures { EachDefinesType }
 {}

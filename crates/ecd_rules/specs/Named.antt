@@ -33,7 +33,7 @@ is_float name = list_any (bytes_eq name) float_names
 abbrev pub arity_of : List Rule → List ℕ → ℕ
 arity_of text name = if is_float name then 0 else first_arity (bodies_of text name)
 
--- the name has a rule, or is one of the prelude's floats, which have none
+-- the name has a rule, or is one of the prelude's floats, to which the prelude gives none
 abbrev pub IsDefined : List Rule → List ℕ → Type 0
 IsDefined text name = IsSome (first_of text name) ⊎ Contains float_names name
 

@@ -97,7 +97,7 @@ impl RuleTable {
         first_number(&self.numbers, name)
     }
 
-    /// Whether the text or the prelude defines the name. The prelude's names of floats have no rule.
+    /// Whether the text or the prelude defines the name. The prelude's names of floats have no rule in it.
     pub fn is_defined(&self, name: &[u8]) -> bool
         ensures { (result ≡ true) ↔ IsDefined self.now name.now }
     {
