@@ -312,6 +312,49 @@ fn a_chain_of_names_is_resolved(rt: HostRuntime) -> Result<(), Fail> {
     Ok(())
 }
 
+/// `b` with so many parameters, and `a` gives it as many arguments.
+fn with_parameters(alloc: Global, count: u32) -> Result<Vec<u8>, Fail> {
+    let mut text = Vec::new(alloc);
+    text.extend_from_slice(b"b<p0")?;
+    for number in 1..count {
+        let param = format!(in alloc; ", p{number}")?;
+        text.extend_from_slice(param.as_bytes())?;
+    }
+    text.extend_from_slice(b"> = [p0]\na = b<int")?;
+    for _ in 1..count {
+        text.extend_from_slice(b", int")?;
+    }
+    text.extend_from_slice(b">")?;
+    Ok(text)
+}
+
+/// `a` has so many arguments of `b` inside each other.
+fn with_arguments_inside(alloc: Global, levels: u32) -> Result<Vec<u8>, Fail> {
+    let mut text = Vec::new(alloc);
+    text.extend_from_slice(b"b<t> = [t]\na = ")?;
+    for _ in 0..levels {
+        text.extend_from_slice(b"b<")?;
+    }
+    text.extend_from_slice(b"int")?;
+    for _ in 0..levels {
+        text.extend_from_slice(b">")?;
+    }
+    Ok(text)
+}
+
+#[test]
+fn many_parameters_and_deep_arguments_are_resolved(rt: HostRuntime) -> Result<(), Fail> {
+    let texts = [
+        with_parameters(rt.alloc(), 2000)?,
+        with_arguments_inside(rt.alloc(), 999)?,
+    ];
+    for text in texts.iter() {
+        let text = std::str::from_utf8(text).ok().ok_or("no text")?;
+        assert_eq!(rt; fault_of(rt.alloc(), text)?, (0, 0));
+    }
+    Ok(())
+}
+
 #[test]
 fn faults_are_told_in_words(rt: HostRuntime) -> Result<(), Fail> {
     let told = format!(in rt.alloc(); "{}", NameFault::At { place: 4, rule: 2 })?;
