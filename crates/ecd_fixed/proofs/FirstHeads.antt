@@ -30,10 +30,12 @@ each_head : (first size : ℕ) (rest : List ℕ) (head : Head) → first < 256 �
 each_head first size rest head lt e =
     let o = head_only first rest head size lt e in
     let same : head.arg ≡ argument_of (first % 32) rest = ap (λ (h : Head). h.arg) o.2 in
-    (o.3, elim (cases_lt (argument_of (first % 32) rest) (least_from first)) [
-      | inl l ↦ absurd (let z : 1 + size ≡ 0 = ap (end_of 1) (sym e) ∙ too_small first rest 1 lt l o.0 in omega arith)
-      | inr g ↦ omega (arith, same, g)
-    ])
+    let above : least_from first ≤ head.arg =
+    elim (cases_lt head.arg (least_from first)) [
+      | inl l ↦ absurd (let z : 1 + size ≡ 0 = ap (end_of 1) (sym e) ∙ too_small first rest 1 lt (omega (arith, same, l)) o.0 in omega arith)
+      | inr g ↦ g
+    ] in
+    (o.3, above)
 
 pub first_bytes_tell : FirstBytesTell
 first_bytes_tell = record { none = no_head; some = some_head; each = each_head }
