@@ -3,6 +3,7 @@ pub mod FirstBytes
 pub mod Arguments
 pub mod Ends
 pub mod Stands
+pub mod FirstHeads
 pub mod Kept
 pub mod Valid
 pub mod Placed

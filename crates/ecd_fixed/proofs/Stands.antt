@@ -10,7 +10,7 @@ use Rattle.ecd_head.specs.Fault.{head_at}
 use Rattle.ecd_head.proofs.Heads.{head_takes, head_again, IsBytes-drop}
 use Rattle.ecd_fixed.specs.Windows.{IsBytes}
 use Rattle.ecd_fixed.specs.Meanings.{HeadIsAt, HeadStands, end_within}
-use Rattle.ecd_fixed.specs.Standing.{HeadsStand, HeadsEnd}
+use Rattle.ecd_fixed.specs.Standing.{HeadsAreRead, HeadsEnd}
 
 head_long : (major argument : ℕ) → 0 < length (head_bytes major argument)
 unfolding head_bytes
@@ -33,8 +33,8 @@ module _ (at size : ℕ) (bytes : List ℕ) (head : Head) where
       let long : length (head_bytes head.major head.arg) ≡ size = omega (arith, s.stands.behind) in
       again ∙ ap (λ (n : ℕ). Ok (head, n)) long
 
-pub heads_stand : HeadsStand
-heads_stand at size bytes head fits = ((λ e. read_stands at size bytes head fits e), (λ s. stands_read at size bytes head s))
+pub heads_are_read : HeadsAreRead
+heads_are_read at size bytes head fits = ((λ e. read_stands at size bytes head fits e), (λ s. stands_read at size bytes head s))
 
 -- ---- a head that head_within asks for
 

@@ -1,5 +1,5 @@
--- The functions over heads among the items of a program.
-use Rattle.std.specs.Prelude.{ℕ, ◌≡◌, ◌↔◌, List, [], ◌∷◌, ◌++◌, codes, drop, Some, Ok}
+-- The fixed functions without a depth, those of extents excepted, among the items of a program.
+use Rattle.std.specs.Prelude.{ℕ, ◌<◌, ◌≤◌, ◌≡◌, ◌≢◌, ◌↔◌, List, [], ◌∷◌, ◌++◌, codes, drop, Some, Ok}
 use Rattle.std.specs.Int.{w16, w32, w64}
 use Rattle.ecd_cast.specs.declared.tree.Function.{Function}
 use Rattle.ecd_cast.specs.declared.tree.CItem.{CItem}
@@ -85,8 +85,14 @@ pub record HeadsAreKept : Type 0 where
   pub mean : (items more : List CItem) → AreNew head_names more → HeadsMean items → HeadsMean (items ++ more)
 
 -- a head and its size are read at a place exactly where the head can be written and its shortest bytes, which are so many, stand there
-abbrev pub HeadsStand : Type 0
-HeadsStand = (at size : ℕ) (bytes : List ℕ) (head : Head) → IsBytes bytes → (head_at (drop at bytes) ≡ Ok (head, size)) ↔ HeadIsAt bytes at size head
+abbrev pub HeadsAreRead : Type 0
+HeadsAreRead = (at size : ℕ) (bytes : List ℕ) (head : Head) → IsBytes bytes → (head_at (drop at bytes) ≡ Ok (head, size)) ↔ HeadIsAt bytes at size head
+
+-- Where size_from is 0, no head begins with the byte. Else some head does, and each has so many bytes and an argument of at least least_from.
+pub record FirstBytesTell : Type 0 where
+  pub none : (first : ℕ) → first < 256 → size_from first ≡ 0 → (size : ℕ) (rest : List ℕ) (head : Head) → head_at (first ∷ rest) ≢ Ok (head, size)
+  pub some : (first : ℕ) → first < 256 → size_from first ≢ 0 → (head : Head) × (rest : List ℕ) × (head_at (first ∷ rest) ≡ Ok (head, size_from first))
+  pub each : (first size : ℕ) (rest : List ℕ) (head : Head) → first < 256 → head_at (first ∷ rest) ≡ Ok (head, size) → (size ≡ size_from first) × (least_from first ≤ head.arg)
 
 -- what head_within answers is the one place where such a head ends, or 0
 abbrev pub HeadsEnd : Type 0

@@ -47,10 +47,11 @@ gone_on state byte =
     else (if state == 3 then 2
     else (if nat_lt state 6 then 1 else 2)))))))))
 
+-- Behind one more byte. What it gives for a state of 8 has no meaning.
 unfoldable pub next_state : ℕ → ℕ → ℕ
 next_state state byte = if state == 0 then begun byte else gone_on state byte
 
--- behind all bytes
+-- Behind all bytes. From 8 on it stays 8, and next_state is not asked again.
 abbrev pub state_behind : ℕ → List ℕ → ℕ
 state_behind state [] = state
 state_behind state (byte ∷ bytes) = if next_state state byte == 8 then 8 else state_behind (next_state state byte) bytes
@@ -143,7 +144,7 @@ utf8_names = codes "utf8_begin" ∷ codes "utf8_next" ∷ codes "utf8_valid" ∷
 pub record BeginsUtf8 (callee : Callee) : Type 0 where
   pub answers : (byte : ℕ) (m : Memory) → Answers (callee (Num byte ∷ []) m) (λ n. n ≡ begun byte) 19
 
--- the state behind one more byte
+-- The state behind one more byte, which is not asked for from 8 on.
 pub record GoesOnUtf8 (callee : Callee) : Type 0 where
   pub answers : (state byte : ℕ) (m : Memory) → Answers (callee (Num state ∷ Num byte ∷ []) m) (λ n. n ≡ next_state state byte) 22
 
@@ -158,6 +159,6 @@ pub record ChecksUtf8 (callee : Callee) : Type 0 where
 
 -- ---- a law
 
--- behind all bytes is a state between characters exactly where they are UTF-8
+-- From between characters on, state_behind is between characters behind all bytes exactly where they are UTF-8.
 abbrev pub StatesTell : Type 0
 StatesTell = (bytes : List ℕ) → (state_behind 0 bytes ≡ 0) ↔ (is_utf8 bytes ≡ true)

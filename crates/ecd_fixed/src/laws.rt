@@ -2,7 +2,7 @@
 
 ghost use Rattle.ecd_fixed.specs.ExtentsStanding.{ExtentsAreKept};
 ghost use Rattle.ecd_fixed.specs.Framed.{FramedEndOnce, ValidIsFramed};
-ghost use Rattle.ecd_fixed.specs.Standing.{ComparisonIsKept, CopierIsKept, HeadWriterIsKept, HeadsAreKept, HeadsEnd, HeadsStand, Utf8IsKept};
+ghost use Rattle.ecd_fixed.specs.Standing.{ComparisonIsKept, CopierIsKept, FirstBytesTell, HeadWriterIsKept, HeadsAreKept, HeadsAreRead, HeadsEnd, Utf8IsKept};
 ghost use Rattle.ecd_fixed.specs.Utf8.{StatesTell};
 ghost use Rattle.ecd_fixed.specs.Writes.{PutsAreWritten};
 
@@ -14,8 +14,14 @@ pub fn heads_are_kept()
 {}
 
 /// A head is read at a place exactly where it can be written and its shortest bytes stand there.
-pub fn heads_stand()
-    ensures { HeadsStand }
+pub fn heads_are_read()
+    ensures { HeadsAreRead }
+{}
+
+/// Where `head_size` answers 0 for a byte, no head begins with it. Else some head does, and each has so many bytes and an
+/// argument of at least what `head_least` answers.
+pub fn first_bytes_tell()
+    ensures { FirstBytesTell }
 {}
 
 /// `head_within` answers the one place where a head of its kind ends, or 0.
@@ -35,7 +41,8 @@ pub fn utf8_is_kept()
     ensures { Utf8IsKept }
 {}
 
-/// Behind all bytes the state of `utf8_next` is the one between characters exactly where they are UTF-8.
+/// From the state between characters on, with a step of `utf8_next` for each byte, the state behind all bytes is the one
+/// between characters exactly where they are UTF-8. Behind a state of 8 `utf8_next` is not asked again: it stays at 8.
 pub fn states_tell_utf8()
     ensures { StatesTell }
 {}

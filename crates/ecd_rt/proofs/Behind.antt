@@ -13,7 +13,7 @@ use Rattle.ecd_item.specs.Reading.{Reader, behind, parts, many, pairs}
 use Rattle.ecd_fixed.specs.Windows.{IsBytes}
 use Rattle.ecd_fixed.specs.Extents.{own_end_of, least_behind, string_behind}
 use Rattle.ecd_rt.proofs.Readers.{place_of, place_made, Advances, few_many, few_pairs}
-use Rattle.ecd_rt.proofs.Texting.{text_place}
+use Rattle.ecd_rt.specs.Meanings.{text_place}
 
 -- what reads the parts, where something does, advances
 abbrev pub Advance : Option (Reader Item) → Type 0

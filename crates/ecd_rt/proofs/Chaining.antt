@@ -31,7 +31,8 @@ use Rattle.ecd_rt.proofs.Naming.{any_is, items_is, pairs_is, items_any, pairs_an
 use Rattle.ecd_rt.proofs.Readers.{item_advances}
 use Rattle.ecd_rt.proofs.Following.{Follows, FollowsMany, items_answers}
 use Rattle.ecd_rt.proofs.Pairing.{pairs_answers}
-use Rattle.ecd_rt.proofs.Texting.{TextEnd, text_answers}
+use Rattle.ecd_rt.specs.Meanings.{TextEnd}
+use Rattle.ecd_rt.proofs.Texting.{text_answers}
 use Rattle.ecd_rt.proofs.Deepening.{leaf_follows, level_follows}
 
 -- ---- valid

@@ -72,7 +72,7 @@ module _ (old : List CItem) (there : FrontIsThere old) where
       there_step depth k le deep new (λ less. any_there depth (omega arith) (names_below (suc depth) depth (omega arith) old new) k less) (nat_eq k (suc depth)) refl
 
   pub chain_there : (depth : ℕ) → depth ≤ 32 → AreNew (any_names depth) old → AnyIsThere depth (old ++ any_functions depth)
-  chain_there depth deep new k le = any_there depth deep new k le
+  chain_there depth deep new = record { text = text_there (names_below depth 0 (omega arith) old new) depth; each = any_there depth deep new }
 
 -- ---- and mean what they are to mean
 
@@ -112,7 +112,7 @@ module _ (old : List CItem) (mean : FrontMeans old) where
   any_means (suc depth) deep k le = means_step depth k le deep (any_means depth (omega arith) k) (nat_eq k (suc depth)) refl
 
   pub chain_means : (depth : ℕ) → depth ≤ 32 → AnyMeans depth (old ++ any_functions depth)
-  chain_means depth deep k le = any_means depth deep k le
+  chain_means depth deep = record { text = (top_means depth).text; each = any_means depth deep }
 
 -- ---- the items, one level after the other
 

@@ -32,11 +32,10 @@ use Rattle.ecd_fixed.proofs.Numbers.{long, one_byte}
 use Rattle.ecd_fixed.proofs.Arguments.{read_there}
 use Rattle.ecd_rt.specs.Names.{any_name, items_name, pairs_name}
 use Rattle.ecd_rt.specs.Trees.{any_front, any_behind, any_end}
-use Rattle.ecd_rt.specs.Meanings.{paid_by}
+use Rattle.ecd_rt.specs.Meanings.{text_place, TextEnd, paid_by}
 use Rattle.ecd_rt.proofs.Budgets.{whole_paid, tag_paid, items_paid, pairs_paid}
 use Rattle.ecd_rt.proofs.Readers.{place_of, Advances, item_advances}
 use Rattle.ecd_rt.proofs.Following.{Follows, FollowsMany}
-use Rattle.ecd_rt.proofs.Texting.{TextEnd, text_place}
 use Rattle.ecd_rt.proofs.Behind.{Advance, few_left, few_end, low_end, simple_end, text_ends, parts_end, tag_place, map_place, array_place, no_parts}
 
 -- ---- what is paid for a text

@@ -1,5 +1,5 @@
 -- All fixed functions together: where each is put, that all of them stay there, and what they mean there.
-use Rattle.std.proofs.Common.{◌≡◌, ℕ, zero, suc, ◌≤◌, List, [], ◌∷◌, ◌++◌, ap, sym, subst, ◌∙◌, append_assoc}
+use Rattle.std.proofs.Common.{◌≡◌, ℕ, zero, suc, ◌≤◌, List, [], ◌∷◌, ◌++◌, ap, sym, subst, ◌∙◌, append_assoc, arith}
 use Rattle.std.specs.Prelude.{codes}
 use Rattle.ecd_cast.specs.declared.tree.CItem.{CItem}
 use Rattle.ecd_cast.specs.declared.tree.CItem.TheVariants.{Function as AFunction}
@@ -17,8 +17,8 @@ use Rattle.ecd_fixed.proofs.Kept.{callee_kept, among_kept, heads_are_kept, utf8_
 use Rattle.ecd_fixed.proofs.Extended.{extents_are_kept}
 use Rattle.ecd_fixed.proofs.Placed.{new_behind}
 use Rattle.ecd_rt.specs.Names.{any_name}
-use Rattle.ecd_rt.specs.Trees.{any_end, any_functions, any_names, level_names}
-use Rattle.ecd_rt.specs.Meanings.{IsAny}
+use Rattle.ecd_rt.specs.Trees.{text_end, any_end, any_functions, any_names, level_names}
+use Rattle.ecd_rt.specs.Meanings.{TextEnd, IsAny}
 use Rattle.ecd_rt.specs.Standing.{FrontIsThere, FrontMeans, AnyIsThere, AnyMeans}
 use Rattle.ecd_rt.specs.Runtime.{front_functions, front_names, writing_functions, writing_names, runtime_functions, runtime_names, RuntimeIsThere, RuntimeMeans, RuntimeIsKept}
 use Rattle.ecd_rt.proofs.Fresh.{first_names, last_names, names_below, new_in_both, extents_behind_heads, utf8_behind, comparison_behind, heads_before, extents_before, utf8_before, writing_behind_front, copier_behind, puts_before, front_before_writing, any_behind_front, front_any, writing_any, any_before_writing}
@@ -48,14 +48,17 @@ front_goes_on items more new h =
     }
 
 pub any_stays : (depth : ℕ) (items more : List CItem) → AnyIsThere depth items → AnyIsThere depth (items ++ more)
-any_stays depth items more h k le = among_kept (any_end k) items more (h k le)
+any_stays depth items more h = record { text = among_kept text_end items more h.text; each = λ k le. among_kept (any_end k) items more (h.each k le) }
 
 last_any : (k : ℕ) (items : List CItem) → AreNew (any_names k) items → IsNew (any_name k) items
 last_any zero items h = h.1.0
 last_any (suc k) items h = (last_names (any_names k) (level_names k) items h).1.1.0
 
 pub any_goes_on : (depth : ℕ) (items more : List CItem) → AreNew (any_names depth) more → AnyMeans depth items → AnyMeans depth (items ++ more)
-any_goes_on depth items more new h k le = callee_kept (IsAny k) items more (any_name k) (last_any k more (names_below depth k le more new)) (h k le)
+any_goes_on depth items more new h = record {
+  text = callee_kept TextEnd items more (codes "text_end") (names_below depth 0 (omega arith) more new).0 h.text;
+  each = λ k le. callee_kept (IsAny k) items more (any_name k) (last_any k more (names_below depth k le more new)) (h.each k le);
+}
 
 there_kept : (depth : ℕ) (items more : List CItem) → RuntimeIsThere depth items → RuntimeIsThere depth (items ++ more)
 there_kept depth items more h =

@@ -1,5 +1,5 @@
 -- What the function that looks into a text answers.
-use Rattle.std.proofs.Common.{◌≡◌, ℕ, suc, ◌+◌, ◌-◌, ◌*◌, ◌%◌, ◌≤◌, List, [], ◌∷◌, take, drop, refl, sym, subst, ◌∙◌, arith, Bool, true, false, cond}
+use Rattle.std.proofs.Common.{◌≡◌, ℕ, suc, ◌+◌, ◌-◌, ◌*◌, ◌%◌, ◌≤◌, List, [], ◌∷◌, take, drop, refl, sym, subst, ◌∙◌, arith, Bool, true, false}
 use Rattle.std.specs.Prelude.{codes, nat_eq, Ok}
 use Rattle.std.specs.Str.{is_utf8}
 use denote.Hole.Carrier.{hidden}
@@ -12,20 +12,13 @@ use Rattle.ecd_cast.specs.Ends.{Answers}
 use Rattle.ecd_cast.proofs.Rules.{return_rule, call_rule, guard_rule, called_rule, works_within}
 use Rattle.ecd_head.specs.declared.Head.{Head}
 use Rattle.ecd_head.specs.Fault.{head_at}
-use Rattle.ecd_fixed.specs.Windows.{Callee, Window}
+use Rattle.ecd_fixed.specs.Windows.{Window}
 use Rattle.ecd_fixed.specs.Meanings.{HeadArgument}
 use Rattle.ecd_fixed.specs.Utf8.{ChecksUtf8, one_where}
 use Rattle.ecd_rt.specs.Trees.{text_end}
+use Rattle.ecd_rt.specs.Meanings.{text_place}
 use Rattle.ecd_rt.proofs.Windows.{part, inside}
 use Rattle.ecd_rt.proofs.Pairing.{taken}
-
--- the place behind a text, or 0 where its bytes are no UTF-8
-abbrev pub text_place : Bool → ℕ → ℕ
-text_place b end = cond b end 0
-
-pub record TextEnd (callee : Callee) : Type 0 where
-  pub answers : (block offset len at size end : ℕ) (m : Memory) (bytes : List ℕ) (head : Head) → Window m block offset len bytes → head_at (drop at bytes) ≡ Ok (head, size) → end ≡ at + size + head.arg → end ≤ len →
-      Answers (callee (Ptr block offset ∷ Num at ∷ Num end ∷ []) m) (λ n. n ≡ text_place (is_utf8 (take head.arg (drop (at + size) bytes))) end) (27 * (head.arg + 1) + 27)
 
 is_text : (b : Bool) (n end : ℕ) → n ≡ one_where b → nat_eq n 0 ≡ false → end ≡ text_place b end
 is_text true n end e h = refl

@@ -35,7 +35,7 @@ runtime_functions depth = front_functions ++ (any_functions depth ++ writing_fun
 abbrev pub runtime_names : ℕ → List Name
 runtime_names depth = front_names ++ (any_names depth ++ writing_names)
 
--- they are there, so that they may be called; of those that come with a depth each any_d
+-- they are there, so that they may be called; of those that come with a depth text_end and each any_d
 pub record RuntimeIsThere (depth : ℕ) (items : List CItem) : Type 0 where
   pub heads : HeadsAreThere items
   pub extents : ExtentsAreThere items

@@ -9,7 +9,7 @@ use Rattle.ecd_fixed.specs.Compare.{compare_bytes, ComparesBytes}
 use Rattle.ecd_fixed.specs.Standing.{IsAmong, HeadsAreThere, HeadsMean, Utf8IsThere, Utf8Means}
 use Rattle.ecd_rt.specs.Names.{any_name}
 use Rattle.ecd_rt.specs.Trees.{text_end, any_end}
-use Rattle.ecd_rt.specs.Meanings.{IsAny}
+use Rattle.ecd_rt.specs.Meanings.{TextEnd, IsAny}
 
 -- the functions that those with a depth stand on are there, so that they may be called
 pub record FrontIsThere (items : List CItem) : Type 0 where
@@ -33,10 +33,12 @@ pub record LevelIsThere (below : ℕ) (items : List CItem) : Type 0 where
   pub text : IsAmong text_end items
   pub any : IsAmong (any_end below) items
 
--- the functions with a depth are there
-abbrev pub AnyIsThere : ℕ → List CItem → Type 0
-AnyIsThere depth items = (deepest : ℕ) → deepest ≤ depth → IsAmong (any_end deepest) items
+-- what looks into texts is there, and each any_d up to the depth
+pub record AnyIsThere (depth : ℕ) (items : List CItem) : Type 0 where
+  pub text : IsAmong text_end items
+  pub each : (deepest : ℕ) → deepest ≤ depth → IsAmong (any_end deepest) items
 
 -- each of them means what it is to mean
-abbrev pub AnyMeans : ℕ → List CItem → Type 0
-AnyMeans depth items = (deepest : ℕ) → deepest ≤ depth → IsAny deepest (calls_of items (any_name deepest))
+pub record AnyMeans (depth : ℕ) (items : List CItem) : Type 0 where
+  pub text : TextEnd (calls_of items (codes "text_end"))
+  pub each : (deepest : ℕ) → deepest ≤ depth → IsAny deepest (calls_of items (any_name deepest))
