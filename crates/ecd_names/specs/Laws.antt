@@ -1,6 +1,7 @@
 -- What holds of the rules of names.
 use Rattle.std.specs.Prelude.{ℕ, ◌≡◌, false, List}
 use Rattle.ecd_syntax.specs.declared.tree.Rule.{Rule}
+use Rattle.ecd_rules.specs.Kinds.{IsGroup}
 use Rattle.ecd_rules.specs.Leading.{IsRanked}
 use Rattle.ecd_rules.specs.Named.{arity_of, is_in_text}
 use Rattle.ecd_names.specs.Breaks.{IsOfPrelude, Breaks, BreaksNone, IsFirst}
@@ -28,3 +29,7 @@ PreludeIsKept = (text : List Rule) (name : List ℕ) → BreaksNone text → IsO
 -- a prelude name takes no arguments, whatever the text
 abbrev pub PreludeTakesNone : Type 0
 PreludeTakesNone = (text : List Rule) (name : List ℕ) → IsOfPrelude name → arity_of text name ≡ 0
+
+-- and where none is broken, it is a type
+abbrev pub PreludeIsOfTypes : Type 0
+PreludeIsOfTypes = (text : List Rule) (name : List ℕ) → BreaksNone text → IsOfPrelude name → IsGroup text name → ⊥
