@@ -11,6 +11,7 @@ mod Components
 mod Duplicates
 mod Judging
 mod Preludes
+mod Typing
 mod Cycles
 mod Ranking
 pub mod Resolving

@@ -31,13 +31,13 @@ use Rattle.ecd_rules.specs.Named.{is_named}
 
 -- ---- the sites of each form
 
-alts-out : (choices : List Type1) → out-Alts (alts_of 0 choices) ≡ record { at = 0; choices = choices }
+pub alts-out : (choices : List Type1) → out-Alts (alts_of 0 choices) ≡ record { at = 0; choices = choices }
 alts-out choices = search (rules, the_lemmas)
 
-choice-out : (form : Form) → out-Type1 (choice form) ≡ record { at = 0; left = operand_of 0 form; op = None }
+pub choice-out : (form : Form) → out-Type1 (choice form) ≡ record { at = 0; left = operand_of 0 form; op = None }
 choice-out form = search (rules, the_lemmas)
 
-operand-out : (form : Form) → out-Type2 (operand_of 0 form) ≡ record { at = 0; form = form }
+pub operand-out : (form : Form) → out-Type2 (operand_of 0 form) ≡ record { at = 0; form = form }
 operand-out form = search (rules, the_lemmas)
 
 group-out : (ways : List WayTree) → out-GroupTree (group_of 0 ways) ≡ record { at = 0; ways = ways }
@@ -46,7 +46,7 @@ group-out ways = search (rules, the_lemmas)
 way-out : (entries : List Entry) → out-WayTree (way_of 0 entries) ≡ record { at = 0; entries = entries }
 way-out entries = search (rules, the_lemmas)
 
-entry-out : (key : Key) (body : Alts) → out-Entry (entry_of 0 None key body) ≡ record { at = 0; occur = None; key = key; body = body }
+pub entry-out : (key : Key) (body : Alts) → out-Entry (entry_of 0 None key body) ≡ record { at = 0; occur = None; key = key; body = body }
 entry-out key body = search (rules, the_lemmas)
 
 choice-one : (asked : Bool) (form : Form) → choice_sites asked (choice form) ≡ form_sites asked 0 form

@@ -1,8 +1,9 @@
 -- What holds of the rules of names.
 use Rattle.std.specs.Prelude.{ℕ, ◌≡◌, false, List}
 use Rattle.ecd_syntax.specs.declared.tree.Rule.{Rule}
+use Rattle.ecd_rules.specs.Kinds.{IsGroup}
 use Rattle.ecd_rules.specs.Leading.{IsRanked}
-use Rattle.ecd_rules.specs.Named.{is_in_text}
+use Rattle.ecd_rules.specs.Named.{arity_of, is_in_text}
 use Rattle.ecd_names.specs.Breaks.{IsOfPrelude, Breaks, BreaksNone, IsFirst}
 
 -- a text has at most one first broken rule
@@ -24,3 +25,11 @@ NoThirdIsRanked = (text : List Rule) → ((place : ℕ) → Breaks text place 3 
 -- where none is broken, the text has no rule of a prelude name
 abbrev pub PreludeIsKept : Type 0
 PreludeIsKept = (text : List Rule) (name : List ℕ) → BreaksNone text → IsOfPrelude name → is_in_text text name ≡ false
+
+-- a prelude name takes no arguments, whatever the text
+abbrev pub PreludeTakesNone : Type 0
+PreludeTakesNone = (text : List Rule) (name : List ℕ) → IsOfPrelude name → arity_of text name ≡ 0
+
+-- and where none is broken, it is a type
+abbrev pub PreludeIsOfTypes : Type 0
+PreludeIsOfTypes = (text : List Rule) (name : List ℕ) → BreaksNone text → IsOfPrelude name → IsGroup text name → ⊥

@@ -1,6 +1,6 @@
 //! Laws of the rules of names: facts about the definitions alone.
 
-ghost use Rattle.ecd_names.specs.Laws.{HasOneFirst, NoneIsFirst, RankedBreaksNoThird, NoThirdIsRanked, PreludeIsKept};
+ghost use Rattle.ecd_names.specs.Laws.{HasOneFirst, NoneIsFirst, RankedBreaksNoThird, NoThirdIsRanked, PreludeIsKept, PreludeTakesNone, PreludeIsOfTypes};
 
 /// A text has at most one first broken rule, and none where no rule is broken.
 pub fn one_first()
@@ -16,6 +16,9 @@ pub fn ranked_names()
 {}
 
 /// Where no rule is broken, the text has no rule of a name of the prelude. So these names have the bodies that the prelude gives them, and those of floats none.
+/// They are types. Whatever the text, they take no arguments.
 pub fn prelude_names()
-    ensures { PreludeIsKept }
+    ensures kept { PreludeIsKept }
+    ensures arity { PreludeTakesNone }
+    ensures types { PreludeIsOfTypes }
 {}
