@@ -1,0 +1,5 @@
+//! Rows for the readers of a schema's text: what its lexemes are, and which tree they spell.
+#![tactic(auto)]
+
+#[cfg(test)]
+mod lexemes;
