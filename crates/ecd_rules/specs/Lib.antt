@@ -4,6 +4,5 @@ pub mod Kinds
 pub mod Leading
 pub mod Laws
 pub mod Numbers
-pub mod Edges
 pub mod Causes
 pub mod Tables
