@@ -13,10 +13,10 @@ use Rattle.ecd_uses.specs.declared.site.Asked.{Asked}
 use Rattle.ecd_uses.specs.declared.site.Site.{Site}
 use Rattle.ecd_uses.specs.declared.site.Site.TheVariants.{Use}
 use Rattle.ecd_uses.specs.Sites.{sites_of}
-use Rattle.ecd_rules.specs.Named.{arity_of, is_parameter}
-use Rattle.ecd_rules.specs.Kinds.{IsGroup}
-use Rattle.ecd_rules.specs.Sockets.{is_group_socket}
-use Rattle.ecd_rules.specs.Leading.{Uses}
+use Rattle.ecd_bodies.specs.Named.{arity_of, is_parameter}
+use Rattle.ecd_bodies.specs.Kinds.{IsGroup}
+use Rattle.ecd_prelude.specs.Sockets.{is_group_socket}
+use Rattle.ecd_bodies.specs.Reaching.{Uses}
 use Rattle.ecd_names.specs.declared.first.Broken.{Broken}
 use Rattle.ecd_names.specs.Breaks.{IsDuplicate, IsUndefined, IsRecursive, arity_in, IsOtherKind, IsOtherAssign, UseBreaks, NameBreaks, RuleBreaks, SiteBreaks}
 use Rattle.ecd_names.specs.Breaks.{Undefined, Recursive, OtherArity, OtherKind, Duplicate, OtherParameters, OtherAssign, AtName, AtParameter, AtSite, TypeForGroupName, GroupForTypeSocket, GroupAsTypeSocket, TypeForGroupSocket}

@@ -5,7 +5,7 @@ use Rattle.std.specs.List.{position_from}
 use Rattle.std.proofs.lemmas.List.{take_more, length-take-le}
 use Rattle.std.proofs.lemmas.Option.{slice_get_read}
 use Rattle.ecd_syntax.specs.declared.tree.Name.{Name}
-use Rattle.ecd_rules.specs.Named.{is_parameter}
+use Rattle.ecd_bodies.specs.Named.{is_parameter}
 use Rattle.ecd_names.specs.declared.first.Broken.{Broken}
 use Rattle.ecd_names.specs.declared.parameters.Parameters.{Parameters}
 use Rattle.ecd_names.specs.First.{Sees, When}

@@ -6,8 +6,8 @@ use Rattle.std.proofs.lemmas.List.Folds.{Any-from_list_any}
 use Rattle.std.proofs.lemmas.Option.{slice_get_within, slice_get-get_or}
 use Rattle.ecd_syntax.specs.declared.tree.Rule.{Rule}
 use Rattle.ecd_uses.specs.declared.site.Site.TheVariants.{Use, Parenthesis}
-use Rattle.ecd_rules.specs.Named.{all_rules, first_arity, is_float, is_named}
-use Rattle.ecd_rules.specs.Leading.{LeadsWithin, IsRanked}
+use Rattle.ecd_bodies.specs.Named.{all_rules, first_arity, is_float, is_named}
+use Rattle.ecd_bodies.specs.Reaching.{ReachesWithin, IsRanked}
 use Rattle.ecd_names.specs.declared.first.Broken.{Broken}
 use Rattle.ecd_names.specs.declared.scope.Scope.{Scope}
 use Rattle.ecd_names.specs.declared.fault.NameFault.TheVariants.{At}
@@ -84,7 +84,7 @@ few-parameters text scopes are name = by_test (is_float name)
 -- ---- a ranking and N3
 
 module _ (text : List Rule) (ranked : IsRanked text) where
-  not-above : (steps : ℕ) (a b : List ℕ) → LeadsWithin text steps a b → ranked.rank b ≤ ranked.rank a
+  not-above : (steps : ℕ) (a b : List ℕ) → ReachesWithin text steps a b → ranked.rank b ≤ ranked.rank a
   not-above zero a b same = let e : ranked.rank a ≡ ranked.rank b = ap ranked.rank same in omega (arith, e)
   not-above (suc steps) a b walk = omega (arith, ranked.falls a walk.0 walk.1, not-above steps walk.0 b walk.2)
 

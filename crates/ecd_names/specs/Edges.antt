@@ -6,8 +6,8 @@ use Rattle.ecd_syntax.specs.declared.tree.Rule.{Rule}
 use Rattle.ecd_uses.specs.declared.site.Site.{Site}
 use Rattle.ecd_uses.specs.declared.site.Site.TheVariants.{Use, Parenthesis}
 use Rattle.ecd_uses.specs.Sites.{sites_of}
-use Rattle.ecd_rules.specs.Edges.{edge_between}
-use Rattle.ecd_rules.specs.Named.{all_rules, first_of, is_parameter}
+use Rattle.ecd_graph.specs.Edges.{edge_between}
+use Rattle.ecd_bodies.specs.Named.{all_rules, first_of, is_parameter}
 
 -- a use of a name leads to the node of the name; a parameter leads nowhere
 abbrev pub site_edges : (List ℕ → Option ℕ) → Rule → Site → List Edge

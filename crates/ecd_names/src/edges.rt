@@ -1,17 +1,16 @@
 //! The graph of names.
 
 ghost use Rattle.std.specs.Prelude.{◌≡◌, ◌++◌, ℕ, ◌<◌, IfOk, OnOk, length};
-ghost use Rattle.ecd_rules.specs.Named.{all_rules, first_of};
+ghost use Rattle.ecd_bodies.specs.Named.{all_rules, first_of};
 ghost use Rattle.ecd_names.specs.Edges.{site_edges, rule_edges, edges_of, AreComponents};
 ghost use Rattle.ecd_names.specs.Parameters.{AreParameters};
 ghost use Rattle.ecd_names.specs.Scopes.{IsScope, AreScopes};
 
 use crate::parameters::Parameters;
 use crate::scope::Scope;
-use ecd_graph::{Edge, components};
+use ecd_graph::{Edge, add_edge, components};
 use ecd_list::OutOfMemory;
-use ecd_rules::RuleTable;
-use ecd_rules::edge::add_edge;
+use ecd_bodies::RuleTable;
 use ecd_syntax::Rule;
 use ecd_uses::Site;
 use std::alloc::Global;

@@ -1,8 +1,8 @@
 //! The first rule of names that a text breaks.
 
 ghost use Rattle.std.specs.Prelude.{◌≡◌, None, IfOk, OnOk};
-ghost use Rattle.ecd_rules.specs.Named.{all_rules};
-ghost use Rattle.ecd_rules.specs.Leading.{IsRanked};
+ghost use Rattle.ecd_bodies.specs.Named.{all_rules};
+ghost use Rattle.ecd_bodies.specs.Reaching.{IsRanked};
 ghost use Rattle.ecd_names.specs.Breaks.{Breaks};
 ghost use Rattle.ecd_names.specs.Edges.{AreComponents};
 ghost use Rattle.ecd_names.specs.First.{Sees};
@@ -15,7 +15,7 @@ use crate::judge_name::judge_rule;
 use crate::scene::Scene;
 use crate::scope::{Scope, scopes_of};
 use ecd_list::OutOfMemory;
-use ecd_rules::RuleTable;
+use ecd_bodies::RuleTable;
 use std::alloc::Global;
 
 /// What the rules of the text break.

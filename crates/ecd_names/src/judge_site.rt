@@ -3,8 +3,8 @@
 ghost use Rattle.std.specs.Prelude.{◌≡◌, ◌≢◌, false};
 ghost use Rattle.std.specs.List.{Contains};
 ghost use Rattle.ecd_uses.specs.Sites.{sites_of};
-ghost use Rattle.ecd_rules.specs.Named.{is_parameter};
-ghost use Rattle.ecd_rules.specs.Leading.{Uses};
+ghost use Rattle.ecd_bodies.specs.Named.{is_parameter};
+ghost use Rattle.ecd_bodies.specs.Reaching.{Uses};
 ghost use Rattle.ecd_names.specs.Breaks.{SiteBreaks};
 ghost use Rattle.ecd_names.specs.First.{Sees, EachOf};
 ghost use Rattle.ecd_names.specs.Scenes.{IsScene};

@@ -13,13 +13,9 @@ mod names;
 mod parameters;
 mod scene;
 mod scope;
-mod socket;
 
 pub use ecd_list::OutOfMemory;
 pub use ecd_syntax::{Rule, Tree};
 pub use fault::NameFault;
 pub use info::NameInfo;
 pub use names::{Names, resolve};
-
-#[cfg(test)]
-mod tests;

@@ -1,15 +1,15 @@
 //! A rule that is judged, and what its names are.
 
 ghost use Rattle.std.specs.Prelude.{◌≡◌, ◌↔◌, true, false};
-ghost use Rattle.ecd_rules.specs.Named.{is_parameter as parameter};
-ghost use Rattle.ecd_rules.specs.Kinds.{LeadsToGroup, IsGroup};
-ghost use Rattle.ecd_rules.specs.Leading.{Uses};
+ghost use Rattle.ecd_bodies.specs.Named.{is_parameter as parameter};
+ghost use Rattle.ecd_bodies.specs.Kinds.{LeadsToGroup, IsGroup};
+ghost use Rattle.ecd_bodies.specs.Reaching.{Uses};
 ghost use Rattle.ecd_names.specs.Breaks.{IsUndefined, IsRecursive, arity_in, IsGroupIn, IsOtherKind};
 ghost use Rattle.ecd_names.specs.Scenes.{IsScene, AreInOneComponent};
 
 use crate::scope::Scope;
-use ecd_rules::RuleTable;
-use ecd_rules::socket::is_socket;
+use ecd_bodies::RuleTable;
+use ecd_prelude::socket::is_socket;
 use ecd_syntax::Rule;
 use ecd_uses::{Asked, Lead};
 

@@ -1,5 +1,6 @@
 -- What a row of the prelude's table stands for.
-use Rattle.std.specs.Prelude.{codes}
+use denote.Ref.{Bor}
+use Rattle.std.specs.Prelude.{ℕ, List, codes}
 use Rattle.ecd_syntax.specs.declared.tree.Alts.{Alts}
 use Rattle.ecd_syntax.specs.declared.tree.Rule.{Rule}
 use Rattle.ecd_prelude.specs.declared.row.Body.{Body}
@@ -15,5 +16,5 @@ body_of (Either first second) = either first.now second.now
 body_of (Tag number name) = only (tag number name.now)
 body_of (Fraction number word) = only (tagged_pair number (member word.now (codes "int")) (member (codes "m") (codes "integer")))
 
-abbrev pub rule_of : Row → Rule
+abbrev pub rule_of : Bor (List ℕ) × Body → Rule
 rule_of (name, body) = defines name.now (body_of body)

@@ -1,6 +1,6 @@
 use Rattle.std.proofs.Common.{◌+◌, ◌-◌, length, ap, arith}
 use Rattle.ecd_prelude.specs.Prelude.{prelude_rules}
-use Rattle.ecd_rules.specs.Named.{all_rules}
+use Rattle.ecd_bodies.specs.Named.{all_rules}
 use Rattle.ecd_names.specs.Names.{BreaksAt}
 use Rattle.ecd_names.proofs.Seeing.{sees_one_more}
 use Rattle.ecd_names.proofs.Scoping.{scope_at, scopes-each}

@@ -1,5 +1,5 @@
 use Rattle.std.proofs.Common.{take, ◌∙◌, ap}
-use Rattle.ecd_rules.specs.Named.{arity_of}
+use Rattle.ecd_bodies.specs.Named.{arity_of}
 use Rattle.ecd_names.proofs.Judging.{sees_name}
 use Rattle.ecd_names.proofs.judge_name.judge_name.Goals as goal
 
