@@ -6,12 +6,12 @@ use Rattle.std.proofs.lemmas.List.{take_more, length-take-le}
 use Rattle.std.proofs.lemmas.Option.{slice_get_read}
 use Rattle.ecd_syntax.specs.declared.tree.Name.{Name}
 use Rattle.ecd_bodies.specs.Named.{is_parameter}
-use Rattle.ecd_names.specs.declared.first.Broken.{Broken}
+use Rattle.ecd_first.specs.declared.first.Broken.{Broken}
 use Rattle.ecd_names.specs.declared.parameters.Parameters.{Parameters}
-use Rattle.ecd_names.specs.First.{Sees, When}
+use Rattle.ecd_first.specs.Firsts.{offset, Sees, When}
 use Rattle.ecd_names.specs.Parameters.{under, or_first, comes_before, first_parameter, AreParameters, RepeatedAt}
 use Rattle.ecd_names.proofs.Positions.{from-push, from-some, from-before}
-use Rattle.ecd_names.proofs.Seeing.{sees_same}
+use Rattle.ecd_first.proofs.Seeing.{sees_same}
 
 -- one more parameter
 pub first-more : (params : List Name) (i : ℕ) (param : Name) (text name : List ℕ) (old new : Option ℕ) → i < length params → param ≡ get_or params i param → text ≡ param.text →
@@ -34,9 +34,9 @@ module _ (params : List Name) (known : Parameters) (are : AreParameters params k
   pub has_before-parameter : (name : List ℕ) (i : ℕ) → comes_before (under known.firsts name) i ≡ is_parameter (take i params) name
   has_before-parameter name i = ap (λ o. comes_before o i) (are.firsts name) ∙ (ap (comes_before (first_parameter params name)) (sym (zero-add i)) ∙ from-before (λ p. bytes_eq p.text name) 0 i params)
 
-  pub sees_repeated : (old new : Option Broken) (i : ℕ) (param : Name) (text : List ℕ) (repeats : Bool) → i < length params → param ≡ get_or params i param → text ≡ param.text →
-      repeats ≡ comes_before (under known.firsts text) i → Sees old new (When repeats param.at 1) → Sees old new (RepeatedAt params i)
-  sees_repeated old new i param text repeats h e t test s = sees_same old new (When repeats param.at 1) (RepeatedAt params i) to from s
+  pub sees_repeated : (old new : Option (Broken ℕ)) (i : ℕ) (param : Name) (text : List ℕ) (repeats : Bool) → i < length params → param ≡ get_or params i param → text ≡ param.text →
+      repeats ≡ comes_before (under known.firsts text) i → Sees offset old new (When repeats param.at 1) → Sees offset old new (RepeatedAt params i)
+  sees_repeated old new i param text repeats h e t test s = sees_same offset old new (When repeats param.at 1) (RepeatedAt params i) to from s
     where
       tests : repeats ≡ is_parameter (take i params) param.text
       tests = test ∙ (has_before-parameter text i ∙ ap (is_parameter (take i params)) t)
@@ -45,12 +45,12 @@ module _ (params : List Name) (known : Parameters) (are : AreParameters params k
       stands = slice_get_read params (length params) i param refl h e
 
       to : (place number : ℕ) → When repeats param.at 1 place number → RepeatedAt params i place number
-      to place number w = record { param = param; repeated = record { stands = stands; named_before = sym tests ∙ w.so }; place_is = w.place_is; number_is = w.number_is }
+      to place number w = record { param = param; repeated = record { stands = stands; named_before = sym tests ∙ w.so }; place_is = w.place_is; number_is = w.rule_is }
 
       from : (place number : ℕ) → RepeatedAt params i place number → When repeats param.at 1 place number
       from place number r =
           let same : r.param ≡ param = some_same (sym r.repeated.stands ∙ stands) in
-          record { so = tests ∙ subst (λ (p : Name). is_parameter (take i params) p.text ≡ true) same r.repeated.named_before; place_is = r.place_is ∙ ap (λ (p : Name). p.at) same; number_is = r.number_is }
+          record { so = tests ∙ subst (λ (p : Name). is_parameter (take i params) p.text ≡ true) same r.repeated.named_before; place_is = r.place_is ∙ ap (λ (p : Name). p.at) same; rule_is = r.number_is }
         where
           some_same : {x y : Name} → Some x ≡ Some y → x ≡ y
           some_same q = cc

@@ -7,7 +7,7 @@ use Rattle.std.specs.Ordering.{nat_cmp}
 use Rattle.std.specs.declared.vec.Vec.{Vec}
 use Rattle.ecd_syntax.specs.declared.tree.Name.{Name}
 use Rattle.ecd_names.specs.Breaks.{IsRepeated}
-use Rattle.ecd_names.specs.First.{Faults, AnyBelow}
+use Rattle.ecd_first.specs.Firsts.{Faults, AnyBelow}
 use Rattle.ecd_names.specs.declared.parameters.Parameters.{Parameters}
 
 -- what stands under a name
@@ -40,5 +40,5 @@ pub record RepeatedAt (params : List Name) (index : ℕ) (place number : ℕ) : 
   pub number_is : number ≡ 1
 
 -- some parameter repeats one before it
-abbrev pub RepeatsOne : List Name → Faults
+abbrev pub RepeatsOne : List Name → Faults ℕ
 RepeatsOne params = AnyBelow (RepeatedAt params) (length params)

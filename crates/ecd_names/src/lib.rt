@@ -3,7 +3,6 @@
 
 mod edges;
 mod fault;
-mod first;
 mod info;
 mod judge;
 mod judge_name;

@@ -111,7 +111,7 @@ pub fn resolve(alloc: Global, tree: Tree) -> Result<Names, NameFault>
         None => Ok(Names { table }),
         Some(broken) => Err(NameFault::At {
             place: broken.place,
-            rule: broken.number,
+            rule: broken.rule,
         }),
     }
 }
