@@ -37,7 +37,7 @@ abbrev pub GroupWithin : List Rule → ℕ → List ℕ → Type 0
 GroupWithin text zero name = ⊥
 GroupWithin text (suc steps) name = (is_group_socket name ≡ true) ⊎ ((is_socket name ≡ false) × HasGroupRule (GroupWithin text steps) text name)
 
--- The name is a group: finitely many steps show it. Every other name is a type, so names that lead round to each other alone are types.
+-- The name is a group: finitely many steps show it. Every other name is a type, so names that reach each other alone are types.
 pub record IsGroup (text : List Rule) (name : List ℕ) : Type 0 where
   pub steps : ℕ
   pub shown : GroupWithin text steps name

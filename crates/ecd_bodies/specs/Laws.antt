@@ -1,4 +1,4 @@
--- What holds of names, their bodies, their kinds and where they lead.
+-- What holds of names, their bodies, their kinds and what they reach.
 use Rattle.std.specs.Prelude.{◌≡◌, ◌↔◌, ◌⊎◌, ℕ, true, false, List, [], length, map}
 use Rattle.std.specs.List.{Contains}
 use Rattle.ecd_prelude.specs.Laws.{name_in}

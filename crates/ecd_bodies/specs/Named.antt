@@ -1,6 +1,6 @@
 -- The rules of a schema under their names (RFC 8610, sections 2.2.2, 3.1, 3.9 and 3.10).
 use Rattle.std.specs.Prelude.{ℕ, Bool, ◌⊎◌, if◌then◌else◌, List, [], ◌∷◌, ◌++◌, Option, IsSome, length, bytes_eq}
-use Rattle.std.specs.List.{Contains, filter, position, list_any}
+use Rattle.std.specs.List.{Contains, filter, position, position_from, list_any}
 use Rattle.ecd_syntax.specs.declared.tree.Name.{Name}
 use Rattle.ecd_syntax.specs.declared.tree.Rule.{Rule}
 use Rattle.ecd_prelude.specs.Prelude.{prelude_rules, float_names}
@@ -44,3 +44,7 @@ is_in_text text name = list_any (is_named name) text
 -- whether this is one of the parameters
 abbrev pub is_parameter : List Name → List ℕ → Bool
 is_parameter params name = list_any (λ p. bytes_eq p.text name) params
+
+-- the number of the first parameter of the name
+abbrev pub parameter_number : List Name → List ℕ → Option ℕ
+parameter_number params name = position_from (λ p. bytes_eq p.text name) 0 params

@@ -1,4 +1,4 @@
--- Which names the bodies of a name use, and where that leads (RFC 8610, section 3.1).
+-- Which names the bodies of a name use, and so reach (RFC 8610, section 3.1).
 use Rattle.std.specs.Prelude.{ℕ, zero, suc, false, ◌≡◌, ◌<◌, List}
 use Rattle.std.specs.List.{Contains}
 use Rattle.ecd_syntax.specs.declared.tree.Name.{Name}
@@ -24,12 +24,12 @@ pub record Uses (text : List Rule) (a b : List ℕ) : Type 0 where
   pub used : IsUse rule name args asked
   pub is : name.text ≡ b
 
--- the bodies of the one name lead to the other in so many steps
+-- the bodies of the one name reach the other in so many steps
 abbrev pub ReachesWithin : List Rule → ℕ → List ℕ → List ℕ → Type 0
 ReachesWithin text zero a b = a ≡ b
 ReachesWithin text (suc steps) a b = (c : List ℕ) × Uses text a c × ReachesWithin text steps c b
 
--- the one name is the other, or its bodies lead to it
+-- the one name is the other, or its bodies reach it
 pub record ReachesName (text : List Rule) (a b : List ℕ) : Type 0 where
   pub steps : ℕ
   pub walk : ReachesWithin text steps a b

@@ -2,7 +2,7 @@
 
 ghost use Rattle.ecd_bodies.specs.Laws.{RankedNeverReachesBack, UntouchedKeepBodies, PreludeGivesOneBody, FloatsHaveNoBody, UndefinedHaveNoBody, GroupsByRules};
 
-/// Where names have numbers such that each body uses only names of lower number, no name leads back to a name that uses it.
+/// Where names have numbers such that each body uses only names of lower number, no name reaches one that uses it.
 pub fn ranked_names()
     ensures { RankedNeverReachesBack }
 {}

@@ -1,4 +1,4 @@
--- The strongly connected components of names, and where names lead back.
+-- The strongly connected components of names, and names that reach those that use them.
 use Rattle.std.proofs.Common.{ℕ, suc, ◌≡◌, ◌≢◌, ◌<◌, ◌↔◌, false, List, length, get_or, refl, ap, sym, ◌∙◌, subst, arith}
 use Rattle.std.specs.Prelude.{Option, Some, None}
 use Rattle.ecd_graph.specs.declared.edge.Edge.{Edge}
@@ -86,7 +86,7 @@ module _ (text : List Rule) (numbers : List ℕ) (are : AreComponents text numbe
         λ back. both.1 (use-reaches a b x y u e f, node-reached text (edges_of text) (first_of text) (are-nodes text) y x b a f e back),
       )
 
-  -- what has no rule leads nowhere
+  -- what has no rule reaches nothing
   pub none-back : (a b : List ℕ) → Uses text a b → first_of text b ≡ None → ReachesName text b a → ⊥
   none-back a b u e back =
       let x = node-starts text a b u in

@@ -1,4 +1,4 @@
--- Names that lead back to themselves do so by a rule of the text.
+-- Names that reach themselves do so by a rule of the text.
 use Rattle.std.proofs.Common.{ℕ, zero, suc, ◌≡◌, ◌<◌, ◌≤◌, ◌⊎◌, inl, inr, List, refl, ap, sym, subst, arith}
 use Rattle.std.specs.List.{Contains}
 use Rattle.std.proofs.lemmas.List.Elements.{Contains-append_cases}
@@ -18,7 +18,7 @@ module _ (text : List Rule) where
   reaches-on : (a b c : List ℕ) → ReachesName text a b → Uses text b c → ReachesName text a c
   reaches-on a b c l u = reaches_then l.steps a b c l.walk (record { steps = 1; walk = (c, u, refl) })
 
-  -- a rule of the text that uses a name which leads back breaks N3
+  -- a rule of the text that uses a name which reaches its own breaks N3
   text-breaks : (a b : List ℕ) (u : Uses text a b) → Contains text u.rule → ReachesName text b a → Breaks text u.name.at 3
   text-breaks a b u c back =
       let place = at_element text u.rule c in

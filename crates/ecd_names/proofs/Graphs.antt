@@ -1,4 +1,4 @@
--- Names that lead to each other, and nodes that reach each other.
+-- Names that reach each other, and nodes that reach each other.
 use Rattle.std.proofs.Common.{ℕ, zero, suc, ◌≡◌, Bool, true, false, List, [], ◌∷◌, refl, ap, sym, ◌∙◌, subst}
 use Rattle.std.specs.Prelude.{Option, Some, None, flat_map}
 use Rattle.std.specs.List.{Contains}
@@ -61,7 +61,7 @@ module _ (node : List ℕ → Option ℕ) (rules : List Rule) where
       (flat_in (site_edges node rule) (sites_of rule) (Use name args asked) (record { from = from; to = to }) u.among
       (subst (λ (l : List Edge). Contains l (record { from = from; to = to })) (sym here) (in_only (record { from = from; to = to }))))
 
--- ---- walks are the leading of names
+-- ---- walks are the reaching of names
 
 -- what is known of the nodes
 pub record AreNodes (text : List Rule) (edges : List Edge) (node : List ℕ → Option ℕ) : Type 0 where
@@ -93,6 +93,6 @@ module _ (text : List Rule) (edges : List Edge) (node : List ℕ → Option ℕ)
   pub node-reached : (x y : ℕ) (a b : List ℕ) → node a ≡ Some x → node b ≡ Some y → ReachesName text a b → Reaches edges x y
   node-reached x y a b e f l = record { steps = l.steps; walk = steps-walk l.steps a b x y l.walk e f }
 
-  -- a name that leads to one with a node has one
+  -- a name that reaches one with a node has one
   pub start-node : (a b : List ℕ) (y : ℕ) → node b ≡ Some y → ReachesName text a b → (x : ℕ) × (node a ≡ Some x)
   start-node a b y f l = start-of l.steps a b y l.walk f

@@ -5,24 +5,24 @@ use Rattle.std.specs.List.{position_from}
 use Rattle.std.proofs.lemmas.List.{take_more, length-take-le}
 use Rattle.std.proofs.lemmas.Option.{slice_get_read}
 use Rattle.ecd_syntax.specs.declared.tree.Name.{Name}
-use Rattle.ecd_bodies.specs.Named.{is_parameter}
+use Rattle.ecd_bodies.specs.Named.{is_parameter, parameter_number}
 use Rattle.ecd_first.specs.declared.first.Broken.{Broken}
 use Rattle.ecd_names.specs.declared.parameters.Parameters.{Parameters}
 use Rattle.ecd_first.specs.Firsts.{offset, Sees, When}
-use Rattle.ecd_names.specs.Parameters.{under, or_first, comes_before, first_parameter, AreParameters, RepeatedAt}
+use Rattle.ecd_names.specs.Parameters.{under, or_first, comes_before, AreParameters, RepeatedAt}
 use Rattle.ecd_names.proofs.Positions.{from-push, from-some, from-before}
 use Rattle.ecd_first.proofs.Seeing.{sees_same}
 
 -- one more parameter
 pub first-more : (params : List Name) (i : ℕ) (param : Name) (text name : List ℕ) (old new : Option ℕ) → i < length params → param ≡ get_or params i param → text ≡ param.text →
-    old ≡ first_parameter (take i params) name → new ≡ or_first old (if bytes_eq text name then Some i else None) → new ≡ first_parameter (take (i + 1) params) name
+    old ≡ parameter_number (take i params) name → new ≡ or_first old (if bytes_eq text name then Some i else None) → new ≡ parameter_number (take (i + 1) params) name
 first-more params i param text name old new h e t before more =
     let is_named : Name → Bool = λ p. bytes_eq p.text name in
     let taken : take (i + 1) params ≡ take i params ++ param ∷ [] = take_more params i param h ∙ ap (λ (p : Name). take i params ++ p ∷ []) (sym e) in
     let count : 0 + length (take i params) ≡ i = zero-add (length (take i params)) ∙ length-take-le i params (omega arith) in
     more ∙ (ap (λ o. or_first o (if bytes_eq text name then Some i else None)) before
-    ∙ (ap (λ (x : List ℕ). or_first (first_parameter (take i params) name) (if bytes_eq x name then Some i else None)) t
-    ∙ (ap (λ n. or_first (first_parameter (take i params) name) (if is_named param then Some n else None)) (sym count)
+    ∙ (ap (λ (x : List ℕ). or_first (parameter_number (take i params) name) (if bytes_eq x name then Some i else None)) t
+    ∙ (ap (λ n. or_first (parameter_number (take i params) name) (if is_named param then Some n else None)) (sym count)
     ∙ (sym (from-push is_named 0 (take i params) param) ∙ ap (position_from is_named 0) (sym taken)))))
 
 module _ (params : List Name) (known : Parameters) (are : AreParameters params known) where
@@ -32,7 +32,7 @@ module _ (params : List Name) (known : Parameters) (are : AreParameters params k
 
   -- and before a number where an earlier one has it
   pub has_before-parameter : (name : List ℕ) (i : ℕ) → comes_before (under known.firsts name) i ≡ is_parameter (take i params) name
-  has_before-parameter name i = ap (λ o. comes_before o i) (are.firsts name) ∙ (ap (comes_before (first_parameter params name)) (sym (zero-add i)) ∙ from-before (λ p. bytes_eq p.text name) 0 i params)
+  has_before-parameter name i = ap (λ o. comes_before o i) (are.firsts name) ∙ (ap (comes_before (parameter_number params name)) (sym (zero-add i)) ∙ from-before (λ p. bytes_eq p.text name) 0 i params)
 
   pub sees_repeated : (old new : Option (Broken ℕ)) (i : ℕ) (param : Name) (text : List ℕ) (repeats : Bool) → i < length params → param ≡ get_or params i param → text ≡ param.text →
       repeats ≡ comes_before (under known.firsts text) i → Sees offset old new (When repeats param.at 1) → Sees offset old new (RepeatedAt params i)

@@ -40,7 +40,7 @@ pub record IsUndefined (text : List Rule) (rule : Rule) (name : List ℕ) : Type
 
 -- ---- N3, names are recursive
 
--- a name that is no parameter of the rule, and leads back to the rule's name
+-- a name that is no parameter of the rule, and reaches the rule's name
 pub record IsRecursive (text : List Rule) (rule : Rule) (name : List ℕ) : Type 0 where
   pub free : is_parameter rule.params name ≡ false
   pub back : ReachesName text name rule.name.text

@@ -21,7 +21,7 @@ rule_edges node rule = flat_map (site_edges node rule) (sites_of rule)
 abbrev pub edges_of : List Rule → List Edge
 edges_of text = flat_map (rule_edges (first_of text)) (all_rules text)
 
--- the numbers of the strongly connected components, in reverse topological order: nodes have one number exactly where they lead to each other, and no node leads to one of a greater number
+-- the numbers of the strongly connected components, in reverse topological order: nodes have one number exactly where they reach each other, and no node reaches one of a greater number
 pub record AreComponents (text : List Rule) (numbers : List ℕ) : Type 0 where
   pub each : length numbers ≡ length (all_rules text)
   pub components : NumbersComponents (length (all_rules text)) (edges_of text) numbers

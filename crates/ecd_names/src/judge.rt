@@ -10,12 +10,12 @@ ghost use Rattle.ecd_names.specs.Names.{HasFewParameters};
 ghost use Rattle.ecd_names.specs.Scopes.{AreScopes};
 
 use crate::edges::component_numbers;
-use ecd_first::{Broken, First};
 use crate::judge_name::judge_rule;
 use crate::scene::Scene;
 use crate::scope::{Scope, scopes_of};
-use ecd_list::OutOfMemory;
 use ecd_bodies::RuleTable;
+use ecd_first::{Broken, First};
+use ecd_list::OutOfMemory;
 use std::alloc::Global;
 
 /// What the rules of the text break.
@@ -47,7 +47,10 @@ fn judge_rules(
 }
 
 /// The first rule of names that the text breaks.
-pub(crate) fn first_broken(alloc: Global, table: &RuleTable) -> Result<Option<Broken<u32>>, OutOfMemory>
+pub(crate) fn first_broken(
+    alloc: Global,
+    table: &RuleTable,
+) -> Result<Option<Broken<u32>>, OutOfMemory>
     ensures first { IfOk result (λ broken. Sees offset None broken (Breaks table.now)) }
     ensures ranked { IfOk result (λ broken. broken ≡ None → IsRanked table.now) }
     ensures few { IfOk result (λ _. HasFewParameters table.now) }

@@ -5,10 +5,10 @@ ghost use Rattle.ecd_names.specs.Breaks.{IsDuplicate, IsOtherAssign, RuleBreaks}
 ghost use Rattle.ecd_first.specs.Firsts.{offset, Sees};
 ghost use Rattle.ecd_names.specs.Scenes.{IsScene, NameFaults};
 
-use ecd_first::First;
 use crate::judge_site::judge_sites;
 use crate::parameters::judge_parameters;
 use crate::scene::Scene;
+use ecd_first::First;
 use ecd_list::OutOfMemory;
 use ecd_prelude::is_float_name;
 use ecd_prelude::socket::is_type_socket;
@@ -71,7 +71,11 @@ fn judge_name(alloc: Global, scene: &Scene, first: &mut First<u32>) -> Result<()
 }
 
 /// What a rule of the text breaks.
-pub(crate) fn judge_rule(alloc: Global, scene: &Scene, first: &mut First<u32>) -> Result<(), OutOfMemory>
+pub(crate) fn judge_rule(
+    alloc: Global,
+    scene: &Scene,
+    first: &mut First<u32>,
+) -> Result<(), OutOfMemory>
     requires { IsScene scene.now }
     ensures { OnOk result (Sees offset first.old.broken first.new.broken (RuleBreaks scene.now.table.now (take scene.now.index scene.now.table.now) scene.now.rule.now)) }
 {

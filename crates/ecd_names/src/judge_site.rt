@@ -9,8 +9,8 @@ ghost use Rattle.ecd_names.specs.Breaks.{SiteBreaks};
 ghost use Rattle.ecd_first.specs.Firsts.{offset, Sees, EachOf};
 ghost use Rattle.ecd_names.specs.Scenes.{IsScene};
 
-use ecd_first::First;
 use crate::scene::Scene;
+use ecd_first::First;
 use ecd_syntax::Name;
 use ecd_uses::{Asked, Site};
 

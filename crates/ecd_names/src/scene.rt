@@ -44,7 +44,7 @@ impl<'a> Scene<'a> {
         !self.is_parameter(name) && !is_socket(name) && !self.table.is_defined(name)
     }
 
-    /// Whether both names have rules, and lead to each other.
+    /// Whether both names have rules, and reach each other.
     fn are_in_one_component(&self, a: &[u8], b: &[u8]) -> bool
         requires { IsScene self.now }
         ensures { (result ≡ true) ↔ AreInOneComponent self.now.table.now self.now.components.now a.now b.now }
@@ -58,7 +58,7 @@ impl<'a> Scene<'a> {
         }
     }
 
-    /// N3: whether the name, which the rule uses, leads back to the rule's name.
+    /// N3: whether the name, which the rule uses, reaches the rule's name.
     pub(crate) fn is_recursive(&self, name: &[u8]) -> bool
         requires scene { IsScene self.now }
         requires used { parameter self.now.rule.now.params name.now ≡ false → Uses self.now.table.now self.now.rule.now.name.text name.now }

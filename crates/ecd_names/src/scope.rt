@@ -5,8 +5,8 @@ ghost use Rattle.ecd_bodies.specs.Named.{all_rules};
 ghost use Rattle.ecd_names.specs.Scopes.{IsScope, AreScopes};
 
 use crate::parameters::Parameters;
-use ecd_list::OutOfMemory;
 use ecd_bodies::RuleTable;
+use ecd_list::OutOfMemory;
 use ecd_syntax::Rule;
 use ecd_uses::{SiteList, sites};
 use std::alloc::Global;
