@@ -1,4 +1,4 @@
--- A tree of one rule.
+-- A list of one rule.
 use Rattle.std.proofs.Common.{◌≡◌, ℕ, ◌<◌, ◌≤◌, List, [], ◌∷◌, length, get_or, ap, sym, ◌∙◌, subst, arith}
 use Rattle.std.specs.Prelude.{Option, Some, None, pos}
 use Rattle.ecd_syntax.specs.declared.tree.Entry.{Entry}
@@ -7,7 +7,6 @@ use Rattle.ecd_syntax.specs.declared.tree.Type2.{out-Type2}
 use Rattle.ecd_syntax.specs.declared.tree.Form.{out-Form}
 use Rattle.ecd_syntax.specs.declared.tree.Form.TheOpen as forms
 use Rattle.ecd_syntax.specs.declared.tree.Literal.TheVariants.{Int}
-use Rattle.ecd_syntax.specs.declared.tree.Tree.{Tree}
 use Rattle.ecd_syntax.specs.declared.tree.Rule.{Rule}
 use Rattle.ecd_compile.specs.Thin.{IsLoneNumber, Defines, IsThin, IsFound}
 
@@ -24,15 +23,15 @@ head_same : (a b : Rule) → a ∷ [] ≡ b ∷ [] → a ≡ b
 unfolding head_of
 head_same a b e = ap (head_of a) e
 
-by_found : (tree : Tree) (root : List ℕ) (rule : Rule) (o : Option ℕ) → tree.rules ≡ rule ∷ [] → Defines rule root → IsFound (IsLoneNumber rule.body) o → IsFound (IsThin tree root) o
-by_found tree root rule (Some n) e d f = record { rule = rule; alone = e; defines = d; number = f }
-by_found tree root rule None e d f = λ n t.
+by_found : (rules : List Rule) (root : List ℕ) (rule : Rule) (o : Option ℕ) → rules ≡ rule ∷ [] → Defines rule root → IsFound (IsLoneNumber rule.body) o → IsFound (IsThin rules root) o
+by_found rules root rule (Some n) e d f = record { rule = rule; alone = e; defines = d; number = f }
+by_found rules root rule None e d f = λ n t.
     let both : rule ∷ [] ≡ t.rule ∷ [] = sym e ∙ t.alone in
     let same : t.rule ≡ rule = sym (head_same rule t.rule both) in
     f n (subst (λ (r : Rule). IsLoneNumber r.body n) same t.number)
 
-pub lone_rule : (tree : Tree) (root : List ℕ) (rules : List Rule) (rule : Rule) (o : Option ℕ) → rules ≡ tree.rules → 1 ≤ length rules → length rules < 2 → rule ≡ get_or rules 0 rule → Defines rule root → IsFound (IsLoneNumber rule.body) o → IsFound (IsThin tree root) o
-lone_rule tree root rules rule o e h k i d f = by_found tree root rule o (sym e ∙ list_of_one rules rule h k i) d f
+pub lone_rule : (root : List ℕ) (rules : List Rule) (rule : Rule) (o : Option ℕ) → 1 ≤ length rules → length rules < 2 → rule ≡ get_or rules 0 rule → Defines rule root → IsFound (IsLoneNumber rule.body) o → IsFound (IsThin rules root) o
+lone_rule root rules rule o h k i d f = by_found rules root rule o (list_of_one rules rule h k i) d f
 
 -- an entry is one number
 one_number : (entry : Entry) (m n : ℕ) → IsLoneNumber entry m → IsLoneNumber entry n → m ≡ n
@@ -45,9 +44,9 @@ one_number entry m n a b =
     let integers : Int (Some (pos m)) ≡ Int (Some (pos n)) = sym a.small.is ∙ (literal ∙ b.small.is) in
     cc
 
--- a tree is one number of the root
-pub one_thin : (tree : Tree) (root : List ℕ) (m n : ℕ) → IsThin tree root m → IsThin tree root n → m ≡ n
-one_thin tree root m n a b =
+-- rules are one number of the root
+pub one_thin : (rules : List Rule) (root : List ℕ) (m n : ℕ) → IsThin rules root m → IsThin rules root n → m ≡ n
+one_thin rules root m n a b =
     let both : a.rule ∷ [] ≡ b.rule ∷ [] = sym a.alone ∙ b.alone in
     let same : a.rule ≡ b.rule = head_same a.rule b.rule both in
     one_number b.rule.body m n (subst (λ (r : Rule). IsLoneNumber r.body m) same a.number) b.number

@@ -1,5 +1,4 @@
 pub mod Thin
 pub mod Schema
-pub mod Refusals
 pub mod Reader
 pub mod Reads

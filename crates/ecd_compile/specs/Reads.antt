@@ -9,8 +9,10 @@ use Rattle.ecd_cast.specs.Meaning.{Run, Returns, calls_of}
 use Rattle.ecd_cast.specs.Validity.{IsValid, structs_of, functions_of, function_names}
 use Rattle.ecd_compile.specs.Reader.{unit_struct, reader_params}
 use Rattle.ecd_cast.specs.Spelling.{IsSpelling}
-use Rattle.ecd_compile.specs.Schema.{IsNumber, HasCause, IsTold}
-use Rattle.ecd_compile.specs.declared.refusal.Refusal.{Refusal}
+use Rattle.ecd_judge.specs.declared.refusal.Refusal.{Refusal}
+use Rattle.ecd_judge.specs.Request.{Request}
+use Rattle.ecd_judge.specs.Schema.{IsTold}
+use Rattle.ecd_compile.specs.Schema.{IsNumber, HasCause}
 
 -- the call returns n, writes exactly these, and never has more calls active than the depth
 pub record Gives (run : Run) (n : ℕ) (writes : List Event) (depth : ℕ) : Type 0 where
@@ -39,9 +41,9 @@ pub record HasInterface (items : List CItem) : Type 0 where
   pub params : map (λ f. f.params) (functions_of items) ≡ reader_params ∷ []
 
 -- the schema stands for a number that the program reads, and the text spells the program, which has a spelling and is valid
-pub record IsCompiled (schema root text : List ℕ) (p : Program) : Type 0 where
+pub record IsCompiled (q : Request) (text : List ℕ) (p : Program) : Type 0 where
   pub number : ℕ
-  pub is_number : IsNumber schema root number
+  pub is_number : IsNumber q number
   pub spells : IsSpelling p text
   pub valid : IsValid p
   pub interface : HasInterface p.items
@@ -49,4 +51,4 @@ pub record IsCompiled (schema root text : List ℕ) (p : Program) : Type 0 where
 
 -- a schema that can be compiled has no cause to be refused
 abbrev pub IsNeverRefused : Type 0
-IsNeverRefused = (schema root : List ℕ) (number : ℕ) (r : Refusal) → IsNumber schema root number → IsTold r → HasCause schema root r → ⊥
+IsNeverRefused = (q : Request) (number : ℕ) (r : Refusal) → IsNumber q number → IsTold r → HasCause q r → ⊥

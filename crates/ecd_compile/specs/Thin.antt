@@ -1,6 +1,5 @@
 -- The schemas that are compiled so far: one rule for the root, with one small number.
 use Rattle.std.specs.Prelude.{ℕ, pos, ◌≡◌, ◌<◌, ◌≤◌, List, [], ◌∷◌, Option, Some, None}
-use Rattle.ecd_syntax.specs.declared.tree.Tree.{Tree}
 use Rattle.ecd_syntax.specs.declared.tree.Rule.{Rule}
 use Rattle.ecd_syntax.specs.declared.tree.Assign.TheVariants.{Define}
 use Rattle.ecd_syntax.specs.declared.tree.Entry.{Entry, out-Entry}
@@ -40,9 +39,9 @@ pub record Defines (rule : Rule) (root : List ℕ) : Type 0 where
   pub defines : rule.assign ≡ Define
 
 -- one rule alone, which defines the root as a small number
-pub record IsThin (tree : Tree) (root : List ℕ) (n : ℕ) : Type 0 where
+pub record IsThin (rules : List Rule) (root : List ℕ) (n : ℕ) : Type 0 where
   pub rule : Rule
-  pub alone : tree.rules ≡ rule ∷ []
+  pub alone : rules ≡ rule ∷ []
   pub defines : Defines rule root
   pub number : IsLoneNumber rule.body n
 

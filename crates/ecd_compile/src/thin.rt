@@ -3,7 +3,7 @@
 ghost use Rattle.std.specs.Prelude.{◌↔◌, IsTrue};
 ghost use Rattle.ecd_compile.specs.Thin.{IsSmall, IsLoneNumber, Defines, IsThin, IsFound};
 
-use ecd_syntax::{Assign, Entry, Form, Key, Literal, Rule, Tree};
+use ecd_syntax::{Assign, Entry, Form, Key, Literal, Rule};
 
 /// The integer of a literal, if it is from 0 to 23.
 fn small_number(literal: &Literal) -> Option<u8>
@@ -51,10 +51,10 @@ fn defines(rule: &Rule, root: &str) -> bool
 }
 
 /// The number of a schema with the one rule `root = number`.
-pub fn thin_number(tree: &Tree, root: &str) -> Option<u8>
-    ensures { IsFound (IsThin tree.now root.now) result }
+pub fn thin_number(rules: &[Rule], root: &str) -> Option<u8>
+    ensures { IsFound (IsThin rules.now root.now) result }
 {
-    let [rule] = tree.rules.as_slice() else {
+    let [rule] = rules else {
         return None;
     };
     if !defines(rule, root) {

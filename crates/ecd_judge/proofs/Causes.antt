@@ -8,13 +8,10 @@ use Rattle.ecd_syntax.specs.declared.tree.Tree.{Tree}
 use Rattle.ecd_syntax.specs.Grammar.{Spells}
 use Rattle.ecd_syntax.specs.Faults.{IsWithin, UnexpectedAt, TooNestedAt}
 use Rattle.ecd_syntax.proofs.Verdicts.{one_spelled, one_unexpected, one_nested, nested_not_within, nested_not_unexpected, unexpected_no_schema}
-use Rattle.ecd_compile.specs.declared.refusal.Refusal.TheVariants.{NotUtf8, Lex, Parse, Name, NotBuilt, OutOfMemory}
-use Rattle.ecd_compile.specs.Schema.{IsSchema, IsNumber, IsSyntaxFault, IsNoSchema, BreaksLexemes, BreaksNames, HasOneCause}
-use Rattle.ecd_compile.specs.Thin.{IsThin}
+use Rattle.ecd_judge.specs.declared.refusal.Refusal.TheVariants.{NotUtf8, Lex, Parse, Name, NotBuilt, OutOfMemory}
+use Rattle.ecd_judge.specs.Schema.{IsSchema, IsSyntaxFault, IsNoSchema, BreaksLexemes, BreaksNames, HasOneCause, SoundHasNoCause, HasOneMeaning}
 use Rattle.ecd_names.specs.Breaks.{BreaksNone, IsFirst}
 use Rattle.ecd_names.proofs.Resolving.{one-first, none-first}
-use Rattle.ecd_compile.specs.Reads.{IsNeverRefused}
-use Rattle.ecd_compile.proofs.LoneRule.{one_thin}
 
 -- the longest front that is UTF-8 is one
 not_longer : (text : List ℕ) (p q : ℕ) → IsValidUpTo text p → IsValidUpTo text q → p < q → ⊥
@@ -52,7 +49,7 @@ no_schema_same text p q r s a b =
 lexemes_same : (text : List ℕ) (p q r s : ℕ) → BreaksLexemes text p r → BreaksLexemes text q s → Lex p r ≡ Lex q s
 lexemes_same text p q r s a b = let e = one_fault text p q r s a.first b.first in λ i. Lex (e.0 i) (e.1 i)
 
-same_tree : (text : List ℕ) (t u : Tree) → IsSchema text t → IsSchema text u → t ≡ u
+pub same_tree : (text : List ℕ) (t u : Tree) → IsSchema text t → IsSchema text u → t ≡ u
 same_tree text t u a b =
     let same : a.tokens ≡ b.tokens = one_list text a.tokens b.tokens a.lexemes b.lexemes in
     one_spelled t u b.tokens (subst (λ (ts : List Token). Spells t ts) same a.spells) b.spells
@@ -69,48 +66,40 @@ sound_or_names text tree p r a parsed sound =
     none-first tree.rules p r sound (subst (λ (t : Tree). IsFirst t.rules p r) same a.first)
 
 pub one_cause : HasOneCause
-one_cause text root (NotUtf8 p) (NotUtf8 q) x y a b = ap NotUtf8 (one_front text p q a.stands b.stands)
-one_cause text root (NotUtf8 p) (Lex q s) x y a b = absurd (a.bad b.utf8)
-one_cause text root (NotUtf8 p) (Parse q s) x y a b = absurd (a.bad b.utf8)
-one_cause text root (NotUtf8 p) (Name q s) x y a b = absurd (a.bad b.schema.utf8)
-one_cause text root (NotUtf8 p) NotBuilt x y a b = absurd (a.bad b.schema.utf8)
-one_cause text root (NotUtf8 p) OutOfMemory x y a b = absurd y
-one_cause text root (Lex p r) (NotUtf8 q) x y a b = absurd (b.bad a.utf8)
-one_cause text root (Lex p r) (Lex q s) x y a b = lexemes_same text p q r s a b
-one_cause text root (Lex p r) (Parse q s) x y a b = absurd (no_list_and_fault text b.tokens p r b.lexemes a.first)
-one_cause text root (Lex p r) (Name q s) x y a b = absurd (no_list_and_fault text b.schema.tokens p r b.schema.lexemes a.first)
-one_cause text root (Lex p r) NotBuilt x y a b = absurd (no_list_and_fault text b.schema.tokens p r b.schema.lexemes a.first)
-one_cause text root (Lex p r) OutOfMemory x y a b = absurd y
-one_cause text root (Parse p r) (NotUtf8 q) x y a b = absurd (b.bad a.utf8)
-one_cause text root (Parse p r) (Lex q s) x y a b = absurd (no_list_and_fault text a.tokens q s a.lexemes b.first)
-one_cause text root (Parse p r) (Parse q s) x y a b = no_schema_same text p q r s a b
-one_cause text root (Parse p r) (Name q s) x y a b = absurd (no_schema_or_schema text b.tree p r a b.schema)
-one_cause text root (Parse p r) NotBuilt x y a b = absurd (no_schema_or_schema text b.tree p r a b.schema)
-one_cause text root (Parse p r) OutOfMemory x y a b = absurd y
-one_cause text root (Name p r) (NotUtf8 q) x y a b = absurd (b.bad a.schema.utf8)
-one_cause text root (Name p r) (Lex q s) x y a b = absurd (no_list_and_fault text a.schema.tokens q s a.schema.lexemes b.first)
-one_cause text root (Name p r) (Parse q s) x y a b = absurd (no_schema_or_schema text a.tree q s b a.schema)
-one_cause text root (Name p r) (Name q s) x y a b = names_same text p q r s a b
-one_cause text root (Name p r) NotBuilt x y a b = absurd (sound_or_names text b.tree p r a b.schema b.sound)
-one_cause text root (Name p r) OutOfMemory x y a b = absurd y
-one_cause text root NotBuilt (NotUtf8 q) x y a b = absurd (b.bad a.schema.utf8)
-one_cause text root NotBuilt (Lex q s) x y a b = absurd (no_list_and_fault text a.schema.tokens q s a.schema.lexemes b.first)
-one_cause text root NotBuilt (Parse q s) x y a b = absurd (no_schema_or_schema text a.tree q s b a.schema)
-one_cause text root NotBuilt (Name q s) x y a b = absurd (sound_or_names text a.tree q s b a.schema a.sound)
-one_cause text root NotBuilt NotBuilt x y a b = refl
-one_cause text root NotBuilt OutOfMemory x y a b = absurd y
-one_cause text root OutOfMemory s x y a b = absurd x
+one_cause w (NotUtf8 p) (NotUtf8 q) x y a b = ap NotUtf8 (one_front w.schema p q a.stands b.stands)
+one_cause w (NotUtf8 p) (Lex q s) x y a b = absurd (a.bad b.utf8)
+one_cause w (NotUtf8 p) (Parse q s) x y a b = absurd (a.bad b.utf8)
+one_cause w (NotUtf8 p) (Name q s) x y a b = absurd (a.bad b.schema.utf8)
+one_cause w (NotUtf8 p) NotBuilt x y a b = absurd b
+one_cause w (NotUtf8 p) OutOfMemory x y a b = absurd y
+one_cause w (Lex p r) (NotUtf8 q) x y a b = absurd (b.bad a.utf8)
+one_cause w (Lex p r) (Lex q s) x y a b = lexemes_same w.schema p q r s a b
+one_cause w (Lex p r) (Parse q s) x y a b = absurd (no_list_and_fault w.schema b.tokens p r b.lexemes a.first)
+one_cause w (Lex p r) (Name q s) x y a b = absurd (no_list_and_fault w.schema b.schema.tokens p r b.schema.lexemes a.first)
+one_cause w (Lex p r) NotBuilt x y a b = absurd b
+one_cause w (Lex p r) OutOfMemory x y a b = absurd y
+one_cause w (Parse p r) (NotUtf8 q) x y a b = absurd (b.bad a.utf8)
+one_cause w (Parse p r) (Lex q s) x y a b = absurd (no_list_and_fault w.schema a.tokens q s a.lexemes b.first)
+one_cause w (Parse p r) (Parse q s) x y a b = no_schema_same w.schema p q r s a b
+one_cause w (Parse p r) (Name q s) x y a b = absurd (no_schema_or_schema w.schema b.tree p r a b.schema)
+one_cause w (Parse p r) NotBuilt x y a b = absurd b
+one_cause w (Parse p r) OutOfMemory x y a b = absurd y
+one_cause w (Name p r) (NotUtf8 q) x y a b = absurd (b.bad a.schema.utf8)
+one_cause w (Name p r) (Lex q s) x y a b = absurd (no_list_and_fault w.schema a.schema.tokens q s a.schema.lexemes b.first)
+one_cause w (Name p r) (Parse q s) x y a b = absurd (no_schema_or_schema w.schema a.tree q s b a.schema)
+one_cause w (Name p r) (Name q s) x y a b = names_same w.schema p q r s a b
+one_cause w (Name p r) NotBuilt x y a b = absurd b
+one_cause w (Name p r) OutOfMemory x y a b = absurd y
+one_cause w NotBuilt s x y a b = absurd a
+one_cause w OutOfMemory s x y a b = absurd x
 
-pub never_refused : IsNeverRefused
-never_refused schema root number (NotUtf8 q) is x a = a.bad is.parsed.utf8
-never_refused schema root number (Lex q s) is x a = no_list_and_fault schema is.parsed.tokens q s is.parsed.lexemes a.first
-never_refused schema root number (Parse q s) is x a = no_schema_or_schema schema is.tree q s a is.parsed
-never_refused schema root number (Name q s) is x a = sound_or_names schema is.tree q s a is.parsed is.sound
-never_refused schema root number NotBuilt is x a = a.other number (subst (λ (t : Tree). IsThin t root number) (same_tree schema is.tree a.tree is.parsed a.schema) is.thin)
-never_refused schema root number OutOfMemory is x a = x
+pub never_refused : SoundHasNoCause
+never_refused w rules (NotUtf8 p) is x a = a.bad is.parsed.utf8
+never_refused w rules (Lex p s) is x a = no_list_and_fault w.schema is.parsed.tokens p s is.parsed.lexemes a.first
+never_refused w rules (Parse p s) is x a = no_schema_or_schema w.schema is.tree p s a is.parsed
+never_refused w rules (Name p s) is x a = sound_or_names w.schema is.tree p s a is.parsed is.sound
+never_refused w rules NotBuilt is x a = a
+never_refused w rules OutOfMemory is x a = x
 
--- a schema stands for one number
-pub one_number : (schema root : List ℕ) (m n : ℕ) → IsNumber schema root m → IsNumber schema root n → m ≡ n
-one_number schema root m n a b =
-    let same : b.tree ≡ a.tree = same_tree schema b.tree a.tree b.parsed a.parsed in
-    one_thin a.tree root m n a.thin (subst (λ (v : Tree). IsThin v root n) same b.thin)
+pub one_meaning : HasOneMeaning
+one_meaning w rules others a b = a.is ∙ (ap (λ (t : Tree). t.rules) (same_tree w.schema a.tree b.tree a.parsed b.parsed) ∙ sym b.is)

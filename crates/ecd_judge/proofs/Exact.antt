@@ -6,12 +6,13 @@ use Rattle.ecd_lex.specs.declared.token.Token.{Token}
 use Rattle.ecd_lex.specs.Lexemes.{IsInside}
 use Rattle.ecd_syntax.specs.declared.tree.Tree.{Tree}
 use Rattle.ecd_syntax.specs.Faults.{UnexpectedAt, TooNestedAt, place_or}
-use Rattle.ecd_compile.specs.declared.refusal.Refusal.{Refusal}
-use Rattle.ecd_compile.specs.declared.refusal.Refusal.TheVariants.{NotUtf8, Lex, Parse, Name, NotBuilt, OutOfMemory}
+use Rattle.ecd_judge.specs.declared.refusal.Refusal.{Refusal}
+use Rattle.ecd_judge.specs.declared.refusal.Refusal.TheVariants.{NotUtf8, Lex, Parse, Name, NotBuilt, OutOfMemory}
 use Rattle.ecd_parse.specs.declared.fault.ParseFault.{ParseFault}
 use Rattle.ecd_parse.specs.declared.fault.ParseFault.TheVariants as parses
-use Rattle.ecd_compile.specs.Refusals.{of_grammar_is, of_names_is}
-use Rattle.ecd_compile.specs.Schema.{IsSchema, IsNumber, HasCause, IsTold, StandsWithin}
+use Rattle.ecd_judge.specs.Refusals.{of_grammar_is, of_names_is}
+use Rattle.ecd_judge.specs.Request.{Request}
+use Rattle.ecd_judge.specs.Schema.{IsSchema, IsSound, HasCause, IsTold, StandsWithin}
 use Rattle.ecd_syntax.specs.declared.tree.Name.{Name as AName}
 use Rattle.ecd_syntax.specs.declared.tree.Rule.{Rule}
 use Rattle.ecd_uses.specs.declared.site.Site.{Site}
@@ -22,9 +23,9 @@ use Rattle.ecd_names.specs.declared.fault.NameFault.{NameFault}
 use Rattle.ecd_names.specs.declared.fault.NameFault.TheVariants as names
 use Rattle.ecd_names.specs.Names.{HasCause as HasNameCause}
 use Rattle.ecd_names.specs.Breaks.{Breaks, RuleBreaks, AtName, AtParameter, AtSite, SiteBreaks}
-use Rattle.ecd_compile.proofs.Causes.{one_cause, never_refused}
+use Rattle.ecd_judge.proofs.Causes.{one_cause, never_refused}
 
-told_or_wants : (r : Refusal) → IsTold r ⊎ (r ≡ OutOfMemory)
+pub told_or_wants : (r : Refusal) → IsTold r ⊎ (r ≡ OutOfMemory)
 told_or_wants (NotUtf8 place) = inl tt
 told_or_wants (Lex place rule) = inl tt
 told_or_wants (Parse place rule) = inl tt
@@ -32,18 +33,17 @@ told_or_wants (Name place rule) = inl tt
 told_or_wants NotBuilt = inl tt
 told_or_wants OutOfMemory = inr refl
 
-pub only_refusal : {A : Type 0} (result : Result A Refusal) (P : A → Type 0) (schema root : List ℕ) → IfOk result P → IfErr result (λ r. HasCause schema root r)
-    → ((a : A) (r : Refusal) → P a → IsTold r → HasCause schema root r → ⊥)
-    → (cause : Refusal) → IsTold cause → HasCause schema root cause → MatchResult result (λ _. ⊥) (λ r. (r ≡ cause) ⊎ (r ≡ OutOfMemory))
-only_refusal (Ok a) P schema root ok err none cause told has = none a cause ok told has
-only_refusal (Err r) P schema root ok err none cause told has =
-    ⊎_elim (λ (t : IsTold r). inl (one_cause schema root r cause t told err has)) (λ (e : r ≡ OutOfMemory). inr e) (told_or_wants r)
+pub only_refusal : {A : Type 0} (result : Result A Refusal) (P : A → Type 0) (q : Request) → IfOk result P → IfErr result (λ r. HasCause q r)
+    → ((a : A) (r : Refusal) → P a → IsTold r → HasCause q r → ⊥)
+    → (cause : Refusal) → IsTold cause → HasCause q cause → MatchResult result (λ _. ⊥) (λ r. (r ≡ cause) ⊎ (r ≡ OutOfMemory))
+only_refusal (Ok a) P q ok err none cause told has = none a cause ok told has
+only_refusal (Err r) P q ok err none cause told has =
+    ⊎_elim (λ (t : IsTold r). inl (one_cause q r cause t told err has)) (λ (e : r ≡ OutOfMemory). inr e) (told_or_wants r)
 
-pub only_compiled : {A : Type 0} (result : Result A Refusal) (schema root : List ℕ) (number : ℕ) → IfErr result (λ r. HasCause schema root r)
-    → IsNumber schema root number → IfErr result (λ r. r ≡ OutOfMemory)
-only_compiled (Ok a) schema root number err is = tt
-only_compiled (Err r) schema root number err is =
-    ⊎_elim (λ (t : IsTold r). absurd (never_refused schema root number r is t err)) (λ (e : r ≡ OutOfMemory). e) (told_or_wants r)
+pub only_sound : {A : Type 0} (result : Result A Refusal) (q : Request) (rules : List Rule) → IfErr result (λ r. HasCause q r) → IsSound q rules → IfErr result (λ r. r ≡ OutOfMemory)
+only_sound (Ok a) q rules err is = tt
+only_sound (Err r) q rules err is =
+    ⊎_elim (λ (t : IsTold r). absurd (never_refused q rules r is t err)) (λ (e : r ≡ OutOfMemory). e) (told_or_wants r)
 
 -- ---- places
 
@@ -102,6 +102,6 @@ pub names_within : (rules : List Rule) (whole : ℕ) (fault : NameFault) → All
 names_within rules whole (names.At place rule) all first = broken_inside rules whole place rule all first.broken
 names_within rules whole names.OutOfMemory all first = tt
 
-pub names_cause : (text root : List ℕ) (tree : Tree) (fault : NameFault) → IsSchema text tree → HasNameCause tree.rules fault → HasCause text root (of_names_is fault)
-names_cause text root tree (names.At place rule) parsed first = record { tree = tree; schema = parsed; first = first }
-names_cause text root tree names.OutOfMemory parsed first = tt
+pub names_cause : (q : Request) (tree : Tree) (fault : NameFault) → IsSchema q.schema tree → HasNameCause tree.rules fault → HasCause q (of_names_is fault)
+names_cause q tree (names.At place rule) parsed first = record { tree = tree; schema = parsed; first = first }
+names_cause q tree names.OutOfMemory parsed first = tt

@@ -5,8 +5,8 @@ use Rattle.ecd_parse.specs.declared.fault.ParseFault.{ParseFault}
 use Rattle.ecd_parse.specs.declared.fault.ParseFault.TheVariants as parses
 use Rattle.ecd_names.specs.declared.fault.NameFault.{NameFault}
 use Rattle.ecd_names.specs.declared.fault.NameFault.TheVariants as names
-use Rattle.ecd_compile.specs.declared.refusal.Refusal.{Refusal}
-use Rattle.ecd_compile.specs.declared.refusal.Refusal.TheVariants.{Lex, Parse, Name, OutOfMemory}
+use Rattle.ecd_judge.specs.declared.refusal.Refusal.{Refusal}
+use Rattle.ecd_judge.specs.declared.refusal.Refusal.TheVariants.{Lex, Parse, Name, OutOfMemory}
 
 abbrev pub of_lexemes_is : LexFault → Refusal
 of_lexemes_is (lexes.At place rule) = Lex place rule

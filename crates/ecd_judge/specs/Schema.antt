@@ -3,13 +3,14 @@ use Rattle.std.specs.Prelude.{ℕ, ◌≡◌, ◌≤◌, ◌⊎◌, List, length
 use Rattle.std.specs.Str.{IsUtf8, IsValidUpTo}
 use Rattle.ecd_lex.specs.declared.token.Token.{Token}
 use Rattle.ecd_lex.specs.Lexemes.{Lexemes, FirstFault}
+use Rattle.ecd_syntax.specs.declared.tree.Rule.{Rule}
 use Rattle.ecd_syntax.specs.declared.tree.Tree.{Tree}
 use Rattle.ecd_syntax.specs.Grammar.{Spells}
 use Rattle.ecd_syntax.specs.Faults.{IsWithin, UnexpectedAt, TooNestedAt}
-use Rattle.ecd_compile.specs.declared.refusal.Refusal.{Refusal}
-use Rattle.ecd_compile.specs.declared.refusal.Refusal.TheVariants.{NotUtf8, Lex, Parse, Name, NotBuilt, OutOfMemory}
+use Rattle.ecd_judge.specs.declared.refusal.Refusal.{Refusal}
+use Rattle.ecd_judge.specs.declared.refusal.Refusal.TheVariants.{NotUtf8, Lex, Parse, Name, NotBuilt, OutOfMemory}
 use Rattle.ecd_names.specs.Breaks.{BreaksNone, IsFirst}
-use Rattle.ecd_compile.specs.Thin.{IsThin}
+use Rattle.ecd_judge.specs.Request.{Request}
 
 -- the text is UTF-8, and its tokens spell the tree within 48 open brackets
 pub record IsSchema (text : List ℕ) (tree : Tree) : Type 0 where
@@ -18,13 +19,6 @@ pub record IsSchema (text : List ℕ) (tree : Tree) : Type 0 where
   pub lexemes : Lexemes text tokens
   pub spells : Spells tree tokens
   pub within : IsWithin tokens
-
--- the schema breaks no rule, and its root stands for this one number: the schemas that are compiled so far
-pub record IsNumber (schema root : List ℕ) (number : ℕ) : Type 0 where
-  pub tree : Tree
-  pub parsed : IsSchema schema tree
-  pub sound : BreaksNone tree.rules
-  pub thin : IsThin tree root number
 
 -- P1 stands at the first unexpected token, P2 at the bracket that is one too many
 abbrev pub IsSyntaxFault : List Token → (end place rule : ℕ) → Type 0
@@ -53,21 +47,21 @@ pub record BreaksNames (text : List ℕ) (place rule : ℕ) : Type 0 where
   pub schema : IsSchema text tree
   pub first : IsFirst tree.rules place rule
 
--- a schema that is not compiled yet, though it breaks no rule
-pub record IsNotThin (text root : List ℕ) : Type 0 where
-  pub tree : Tree
-  pub schema : IsSchema text tree
-  pub sound : BreaksNone tree.rules
-  pub other : (n : ℕ) → IsThin tree root n → ⊥
+-- what makes a schema be refused so. Each rules out the others, and that the schema breaks no rule.
+abbrev pub HasCause : Request → Refusal → Type 0
+HasCause q (NotUtf8 place) = IsNoText q.schema place
+HasCause q (Lex place rule) = BreaksLexemes q.schema place rule
+HasCause q (Parse place rule) = IsNoSchema q.schema place rule
+HasCause q (Name place rule) = BreaksNames q.schema place rule
+HasCause q NotBuilt = ⊥
+HasCause q OutOfMemory = Unit {0}
 
--- what makes a schema be refused so. Each rules out the others, and that the schema is compiled.
-abbrev pub HasCause : (text root : List ℕ) → Refusal → Type 0
-HasCause text root (NotUtf8 place) = IsNoText text place
-HasCause text root (Lex place rule) = BreaksLexemes text place rule
-HasCause text root (Parse place rule) = IsNoSchema text place rule
-HasCause text root (Name place rule) = BreaksNames text place rule
-HasCause text root NotBuilt = IsNotThin text root
-HasCause text root OutOfMemory = Unit {0}
+-- the schema breaks no rule, and these are its rules
+pub record IsSound (q : Request) (rules : List Rule) : Type 0 where
+  pub tree : Tree
+  pub parsed : IsSchema q.schema tree
+  pub sound : BreaksNone tree.rules
+  pub is : rules ≡ tree.rules
 
 -- a refusal that names its cause
 abbrev pub IsTold : Refusal → Type 0
@@ -80,7 +74,15 @@ IsTold OutOfMemory = ⊥
 
 -- a schema is refused for one cause, at one place
 abbrev pub HasOneCause : Type 0
-HasOneCause = (text root : List ℕ) (r s : Refusal) → IsTold r → IsTold s → HasCause text root r → HasCause text root s → r ≡ s
+HasOneCause = (q : Request) (r s : Refusal) → IsTold r → IsTold s → HasCause q r → HasCause q s → r ≡ s
+
+-- and for none where it breaks no rule
+abbrev pub SoundHasNoCause : Type 0
+SoundHasNoCause = (q : Request) (rules : List Rule) (r : Refusal) → IsSound q rules → IsTold r → HasCause q r → ⊥
+
+-- a schema has one list of rules
+abbrev pub HasOneMeaning : Type 0
+HasOneMeaning = (q : Request) (rules others : List Rule) → IsSound q rules → IsSound q others → rules ≡ others
 
 -- its place is one of a text of so many bytes
 abbrev pub StandsWithin : ℕ → Refusal → Type 0

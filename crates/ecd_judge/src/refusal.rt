@@ -1,5 +1,5 @@
 ghost use Rattle.std.specs.Prelude.{◌≡◌};
-ghost use Rattle.ecd_compile.specs.Refusals.{of_lexemes_is, of_grammar_is, of_names_is};
+ghost use Rattle.ecd_judge.specs.Refusals.{of_lexemes_is, of_grammar_is, of_names_is};
 
 use ecd_lex::LexFault;
 use ecd_list::OutOfMemory;
@@ -7,7 +7,7 @@ use ecd_names::NameFault;
 use ecd_parse::ParseFault;
 use thiserror::Error;
 
-/// Why a schema is not compiled. A place is a byte's offset in the schema, from 0.
+/// Why a schema is refused. A place is a byte's offset in the schema, from 0.
 #[derive(Clone, Copy, Debug, PartialEq, Eq, Error)]
 pub enum Refusal {
     /// T0: the bytes are no UTF-8. The place is the length of the longest front that is.
@@ -22,15 +22,16 @@ pub enum Refusal {
     /// The first broken rule of N1 to N5.
     #[error("rule N{rule} at byte {place}")]
     Name { place: u32, rule: u8 },
-    /// The schema is not one that is compiled so far.
+    /// No rule is broken, and the compiler has no part yet that the schema needs. It is the compiler's answer, and never one of `judge`.
     #[error("not built")]
     NotBuilt,
+    /// Want of memory, the stack included.
     #[error("out of memory")]
     OutOfMemory,
 }
 
 impl From<OutOfMemory> for Refusal {
-    ghost use Rattle.ecd_compile.specs.declared.refusal.Refusal.TheVariants.{OutOfMemory as Wants};
+    ghost use Rattle.ecd_judge.specs.declared.refusal.Refusal.TheVariants.{OutOfMemory as Wants};
 
     ghost from_gives = { λ _ r. r ≡ Wants };
 
@@ -40,7 +41,7 @@ impl From<OutOfMemory> for Refusal {
 }
 
 /// A fault of the lexemes as a refusal.
-pub fn of_lexemes(fault: LexFault) -> Refusal
+pub(crate) fn of_lexemes(fault: LexFault) -> Refusal
     ensures { result ≡ of_lexemes_is fault }
 {
     match fault {
@@ -50,7 +51,7 @@ pub fn of_lexemes(fault: LexFault) -> Refusal
 }
 
 /// A fault of the grammar as a refusal.
-pub fn of_grammar(fault: ParseFault) -> Refusal
+pub(crate) fn of_grammar(fault: ParseFault) -> Refusal
     ensures { result ≡ of_grammar_is fault }
 {
     match fault {
@@ -61,7 +62,7 @@ pub fn of_grammar(fault: ParseFault) -> Refusal
 }
 
 /// A fault of the names as a refusal.
-pub fn of_names(fault: NameFault) -> Refusal
+pub(crate) fn of_names(fault: NameFault) -> Refusal
     ensures { result ≡ of_names_is fault }
 {
     match fault {

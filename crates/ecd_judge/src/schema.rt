@@ -3,7 +3,8 @@
 ghost use Rattle.std.specs.Prelude.{ℕ, List, ◌≡◌, ◌≤◌, IfOk, IfErr, length};
 ghost use Rattle.std.specs.List.{AllByRecursion};
 ghost use Rattle.ecd_uses.specs.Places.{IsRuleInside};
-ghost use Rattle.ecd_compile.specs.Schema.{IsSchema, HasCause, StandsWithin};
+ghost use Rattle.ecd_judge.specs.Request.{request};
+ghost use Rattle.ecd_judge.specs.Schema.{IsSchema, HasCause, StandsWithin};
 
 use crate::refusal::{Refusal, of_grammar, of_lexemes};
 use ecd_lex::{MOST_BYTES, lex};
@@ -15,7 +16,7 @@ fn tree_of(alloc: Global, text: &str) -> Result<Tree, Refusal>
     requires { length text.now ≤ MOST_BYTES }
     ensures tree { IfOk result (λ tree. IsSchema text.now tree) }
     ensures inside { IfOk result (λ tree. AllByRecursion (IsRuleInside (length text.now)) tree.rules) }
-    ensures refused { IfErr result (λ refusal. (root : List ℕ) → HasCause text.now root refusal) }
+    ensures refused { IfErr result (λ refusal. (root : List ℕ) (depth : ℕ) → HasCause (request text.now root depth) refusal) }
     ensures within { IfErr result (λ refusal. StandsWithin (length text.now) refusal) }
 {
     let tokens = match lex(alloc, text) {
@@ -30,11 +31,11 @@ fn tree_of(alloc: Global, text: &str) -> Result<Tree, Refusal>
 }
 
 /// The tree of a schema's bytes.
-pub fn schema_tree(alloc: Global, schema: &[u8]) -> Result<Tree, Refusal>
+pub(crate) fn schema_tree(alloc: Global, schema: &[u8]) -> Result<Tree, Refusal>
     requires { length schema.now ≤ MOST_BYTES }
     ensures tree { IfOk result (λ tree. IsSchema schema.now tree) }
     ensures inside { IfOk result (λ tree. AllByRecursion (IsRuleInside (length schema.now)) tree.rules) }
-    ensures refused { IfErr result (λ refusal. (root : List ℕ) → HasCause schema.now root refusal) }
+    ensures refused { IfErr result (λ refusal. (root : List ℕ) (depth : ℕ) → HasCause (request schema.now root depth) refusal) }
     ensures within { IfErr result (λ refusal. StandsWithin (length schema.now) refusal) }
 {
     match str::from_utf8(schema) {

@@ -1,8 +1,8 @@
 use Rattle.std.proofs.Common.{ap}
 use Rattle.std.specs.Prelude.{length, Err}
 use Rattle.ecd_uses.proofs.Inside.{rules_inside}
-use Rattle.ecd_compile.proofs.Exact.{grammar_within}
-use Rattle.ecd_compile.proofs.schema.tree_of.Goals as goal
+use Rattle.ecd_judge.proofs.Exact.{grammar_within}
+use Rattle.ecd_judge.proofs.schema.tree_of.Goals as goal
 
 pub returns-in-Err-parse-clause-within : goal.returns-in-Err-parse-clause-within
 returns-in-Err-parse-clause-within c = rw c.of_grammar.ensures
