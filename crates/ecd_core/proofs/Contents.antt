@@ -3,14 +3,14 @@ use Rattle.std.proofs.Common.{◌≡◌, ℕ, ◌≤◌, inl, inr, List, [], ◌
 use Rattle.std.proofs.lemmas.Bool.Decides.{nat_tests}
 use Rattle.ecd_head.specs.Head.{head_bytes}
 use Rattle.ecd_head.specs.Place.{StandsAt}
-use Rattle.ecd_item.specs.declared.item.Item.{Item}
-use Rattle.ecd_item.specs.declared.item.Pair.{Pair}
+use Rattle.ecd_item_laws.specs.declared.item.Item.{Item}
+use Rattle.ecd_item_laws.specs.declared.item.Pair.{Pair}
 use Rattle.ecd_item.specs.declared.fault.ItemFault.{ItemFault}
 use Rattle.ecd_item.specs.declared.fault.ItemFault.TheVariants as f
-use Rattle.ecd_item.specs.Encoding.{encoding, pair_bytes, joined}
-use Rattle.ecd_item.specs.Valid.{IsValid, IsWhole, depth}
-use Rattle.ecd_item.specs.FirstFault.{Answers}
-use Rattle.ecd_item.proofs.Layers as layers
+use Rattle.ecd_item_laws.specs.Encoding.{encoding, pair_bytes, joined}
+use Rattle.ecd_item_laws.specs.Valid.{IsValid, IsWhole, depth}
+use Rattle.ecd_item_laws.specs.FirstFault.{Answers}
+use Rattle.ecd_item_laws.proofs.Layers as layers
 use Rattle.ecd_item.proofs.Clauses.{begins_with_one_item}
 use Rattle.std.specs.List.{AllByRecursion}
 use Rattle.ecd_keyorder.specs.declared.Order.TheVariants.{Bytewise}

@@ -3,11 +3,11 @@ use Rattle.std.proofs.Common.{◌≡◌, ℕ, zero, suc, ◌<◌, ◌^◌, ◌�
 use mathlib.Core.Former.{Count}
 use denote.Hole.Carrier.{hidden, shown}
 use Rattle.ecd_keyorder.specs.declared.Order.{Order}
-use Rattle.ecd_item.specs.declared.item.Item.{Item}
-use Rattle.ecd_item.specs.declared.item.Item.TheVariants as i
-use Rattle.ecd_item.specs.declared.item.Pair.{Pair}
-use Rattle.ecd_item.specs.Encoding.{encoding}
-use Rattle.ecd_item.specs.Valid.{IsValid}
+use Rattle.ecd_item_laws.specs.declared.item.Item.{Item}
+use Rattle.ecd_item_laws.specs.declared.item.Item.TheVariants as i
+use Rattle.ecd_item_laws.specs.declared.item.Pair.{Pair}
+use Rattle.ecd_item_laws.specs.Encoding.{encoding}
+use Rattle.ecd_item_laws.specs.Valid.{IsValid}
 use Rattle.ecd_core.specs.declared.shape.Kind.{Kind, Choice', Tag', Cbor', AnyTag', Array', Map', Row_of-Shape, end_of-Shape, more_of-Shape, Row_of-MapEntry, end_of-MapEntry, more_of-MapEntry, items-the_row-Shape, items-the_row-MapEntry, roll-Kind, roll-out-Kind, the_lemmas}
 use Rattle.ecd_core.specs.declared.shape.Kind.TheVariants as k
 use Rattle.ecd_core.specs.declared.shape.Kind.TheViews as views

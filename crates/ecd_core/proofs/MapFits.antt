@@ -3,7 +3,7 @@ use Rattle.std.proofs.Common.{◌≡◌, ℕ, zero, suc, ◌+◌, ◌<◌, ◌�
 use Rattle.std.proofs.lemmas.Bool.{lt-ltb, eqb-true, eqb-false}
 use Rattle.ecd_list.specs.declared.memory.OutOfMemory.{OutOfMemory}
 use Rattle.ecd_keyorder.specs.declared.Order.{Order}
-use Rattle.ecd_item.specs.declared.item.Pair.{Pair}
+use Rattle.ecd_item_laws.specs.declared.item.Pair.{Pair}
 use Rattle.ecd_core.specs.declared.shape.MapEntry.{MapEntry}
 use Rattle.ecd_core.specs.declared.shape.MapEntry.TheVariants as m
 use Rattle.ecd_core.specs.declared.shape.Field.{Field}

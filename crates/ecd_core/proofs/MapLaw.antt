@@ -1,10 +1,10 @@
 -- The values of a map belong to one list of pairs, where those of its entries' shapes each belong to one item.
 use Rattle.std.proofs.Common.{◌≡◌, ℕ, ◌<◌, ◌⊎◌, inl, inr, Bool, List, [], ◌∷◌, map, refl, ap, sym, ◌∙◌, subst, arith}
 use Rattle.ecd_keyorder.specs.declared.Order.{Order}
-use Rattle.ecd_item.specs.declared.item.Item.{Item}
-use Rattle.ecd_item.specs.declared.item.Pair.{Pair}
-use Rattle.ecd_item.specs.Encoding.{key_bytes}
-use Rattle.ecd_item.specs.Valid.{Ascend}
+use Rattle.ecd_item_laws.specs.declared.item.Item.{Item}
+use Rattle.ecd_item_laws.specs.declared.item.Pair.{Pair}
+use Rattle.ecd_item_laws.specs.Encoding.{key_bytes}
+use Rattle.ecd_item_laws.specs.Valid.{Ascend}
 use Rattle.ecd_core.specs.declared.value.Value.{Value}
 use Rattle.ecd_core.specs.declared.value.Value.TheVariants as v
 use Rattle.ecd_core.specs.Lists.{Each, HasSome, EachWith, IsIn}

@@ -4,11 +4,11 @@ use Rattle.std.proofs.lemmas.Bool.{eqb-true, eqb-false}
 use Rattle.ecd_list.specs.declared.memory.OutOfMemory.{OutOfMemory}
 use Rattle.ecd_keyorder.specs.declared.Order.{Order}
 use Rattle.ecd_keyorder.specs.Order.{IsBefore}
-use Rattle.ecd_item.specs.declared.item.Item.{Item}
-use Rattle.ecd_item.specs.declared.item.Item.TheVariants as i
-use Rattle.ecd_item.specs.declared.item.Pair.{Pair}
-use Rattle.ecd_item.specs.Encoding.{key_bytes}
-use Rattle.ecd_item.specs.Valid.{Ascend, IsValid}
+use Rattle.ecd_item_laws.specs.declared.item.Item.{Item}
+use Rattle.ecd_item_laws.specs.declared.item.Item.TheVariants as i
+use Rattle.ecd_item_laws.specs.declared.item.Pair.{Pair}
+use Rattle.ecd_item_laws.specs.Encoding.{key_bytes}
+use Rattle.ecd_item_laws.specs.Valid.{Ascend, IsValid}
 use Rattle.ecd_core.specs.declared.shape.Kind.TheVariants as k
 use Rattle.ecd_core.specs.declared.shape.MapEntry.{MapEntry}
 use Rattle.ecd_core.specs.declared.value.Value.{Value}

@@ -1,11 +1,11 @@
 -- What holds of values and shapes.
 use Rattle.std.specs.Prelude.{◌≡◌, ◌↔◌, ◌⊎◌, ◌<◌, ◌^◌, ℕ, List, [], ◌∷◌, length, map}
 use Rattle.ecd_keyorder.specs.declared.Order.{Order}
-use Rattle.ecd_item.specs.declared.item.Item.{Item}
-use Rattle.ecd_item.specs.declared.item.Item.TheVariants as i
-use Rattle.ecd_item.specs.declared.item.Pair.{Pair}
-use Rattle.ecd_item.specs.Encoding.{encoding}
-use Rattle.ecd_item.specs.Valid.{IsValid}
+use Rattle.ecd_item_laws.specs.declared.item.Item.{Item}
+use Rattle.ecd_item_laws.specs.declared.item.Item.TheVariants as i
+use Rattle.ecd_item_laws.specs.declared.item.Pair.{Pair}
+use Rattle.ecd_item_laws.specs.Encoding.{encoding}
+use Rattle.ecd_item_laws.specs.Valid.{IsValid}
 use Rattle.ecd_core.specs.declared.shape.Shape.{Shape}
 use Rattle.ecd_core.specs.declared.shape.Kind.TheVariants as k
 use Rattle.ecd_core.specs.declared.shape.Group.{Group}

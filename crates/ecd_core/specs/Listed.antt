@@ -1,7 +1,7 @@
 -- The relation over the lists of the source, by which the crates above cite it.
 use Rattle.std.specs.Prelude.{◌≡◌, ℕ, zero, suc, List, [], ◌∷◌, ◌++◌, map}
 use Rattle.ecd_keyorder.specs.declared.Order.{Order}
-use Rattle.ecd_item.specs.declared.item.Item.{Item}
+use Rattle.ecd_item_laws.specs.declared.item.Item.{Item}
 use Rattle.ecd_core.specs.declared.shape.Part.{Part}
 use Rattle.ecd_core.specs.declared.shape.MapEntry.{MapEntry, Field', Table'}
 use Rattle.ecd_core.specs.declared.shape.MapEntry.TheVariants as m

@@ -1,6 +1,6 @@
 -- Items that split in two, and into runs one after another.
 use Rattle.std.specs.Prelude.{◌≡◌, ℕ, ◌≤◌, List, length, map, take, drop}
-use Rattle.ecd_item.specs.declared.item.Item.{Item}
+use Rattle.ecd_item_laws.specs.declared.item.Item.{Item}
 use Rattle.ecd_core.specs.declared.value.Value.{Value}
 use Rattle.ecd_core.specs.Lists.{Each}
 use Rattle.ecd_core.specs.Values.{IsWithin, Run, run_items, run_value}

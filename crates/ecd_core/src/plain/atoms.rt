@@ -3,8 +3,8 @@
 ghost use Rattle.std.specs.Prelude.{◌≡◌, ◌↔◌, IsTrue, length};
 ghost use Rattle.std.specs.Str.{IsUtf8, is_utf8};
 ghost use Rattle.std.specs.Option.{option_copied};
-ghost use Rattle.ecd_item.specs.Valid.{IsValid};
-ghost use Rattle.ecd_item.specs.declared.item.Item.TheVariants.{Simple as SimpleItem};
+ghost use Rattle.ecd_item_laws.specs.Valid.{IsValid};
+ghost use Rattle.ecd_item_laws.specs.declared.item.Item.TheVariants.{Simple as SimpleItem};
 ghost use Rattle.ecd_keyorder.specs.declared.Order.TheVariants.{Bytewise};
 ghost use Rattle.ecd_core.specs.declared.value.Value.TheVariants.{Bytes as BytesValue, Number as NumberValue, Unit as UnitValue};
 ghost use Rattle.ecd_core.specs.declared.shape.Kind.TheVariants.{Uint as UintKind, Nint as NintKind, Bytes as BytesKind, Text as TextKind, BytesIs as BytesIsKind, TextIs as TextIsKind, Simple as SimpleKind};

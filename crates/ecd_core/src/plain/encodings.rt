@@ -2,9 +2,9 @@
 
 ghost use Rattle.std.specs.Prelude.{◌≡◌, ◌↔◌, ◌≤◌, IsTrue, IfOk, MatchOption, map};
 ghost use Rattle.std.specs.Option.{option_copied};
-ghost use Rattle.ecd_item.specs.declared.item.Item.{Item as AnItem};
-ghost use Rattle.ecd_item.specs.Encoding.{encoding, key_bytes};
-ghost use Rattle.ecd_item.specs.Valid.{Ascend, IsValid, IsWhole, depth as depth_of};
+ghost use Rattle.ecd_item_laws.specs.declared.item.Item.{Item as AnItem};
+ghost use Rattle.ecd_item_laws.specs.Encoding.{encoding, key_bytes};
+ghost use Rattle.ecd_item_laws.specs.Valid.{Ascend, IsValid, IsWhole, depth as depth_of};
 ghost use Rattle.ecd_keyorder.specs.Order.{IsBefore};
 ghost use Rattle.ecd_keyorder.specs.declared.Order.TheVariants.{Bytewise as ByBytes};
 ghost use Rattle.ecd_core.specs.declared.shape.Kind.TheVariants.{Any as AnyKind, AnyOf as AnyOfKind};

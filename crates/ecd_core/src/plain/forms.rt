@@ -1,9 +1,9 @@
 //! What items and values are made of.
 
 ghost use Rattle.std.specs.Prelude.{◌≡◌, ◌<◌, ◌^◌, ℕ, List, MatchOption, IsTrue, ◌↔◌, [], ◌∷◌};
-ghost use Rattle.ecd_item.specs.declared.item.Item.{Item as AnItem};
-ghost use Rattle.ecd_item.specs.declared.item.Item.TheVariants.{Array as ArrayItem, Bytes as BytesItem, Map as MapItem, Tag as TagItem};
-ghost use Rattle.ecd_item.specs.declared.item.Pair.{Pair as APair};
+ghost use Rattle.ecd_item_laws.specs.declared.item.Item.{Item as AnItem};
+ghost use Rattle.ecd_item_laws.specs.declared.item.Item.TheVariants.{Array as ArrayItem, Bytes as BytesItem, Map as MapItem, Tag as TagItem};
+ghost use Rattle.ecd_item_laws.specs.declared.item.Pair.{Pair as APair};
 ghost use Rattle.ecd_core.specs.declared.value.Value.{Value as AValue};
 ghost use Rattle.ecd_core.specs.declared.value.Value.TheVariants.{Absent as AbsentValue, Group as GroupValue, Many as ManyValue, Present as PresentValue, Tagged as TaggedValue, Way as WayValue};
 

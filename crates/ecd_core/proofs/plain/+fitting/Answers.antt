@@ -1,4 +1,4 @@
-use Rattle.ecd_item.specs.declared.item.Pair.{Pair}
+use Rattle.ecd_item_laws.specs.declared.item.Pair.{Pair}
 use Rattle.ecd_core.specs.declared.shape.MapEntry.{MapEntry}
 use Rattle.ecd_core.specs.Maps.{Stops, IsTaken}
 use Rattle.ecd_core.specs.Owners.{WayStops}

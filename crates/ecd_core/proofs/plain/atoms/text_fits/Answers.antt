@@ -2,7 +2,7 @@ use Rattle.std.specs.Option.{option_copied}
 use Rattle.std.proofs.Common.{◌≡◌, sym, ◌∙◌, subst}
 use Rattle.std.specs.Str.{IsUtf8}
 use Rattle.ecd_keyorder.specs.declared.Order.TheVariants.{Bytewise}
-use Rattle.ecd_item.specs.declared.item.Item.TheVariants as i
+use Rattle.ecd_item_laws.specs.declared.item.Item.TheVariants as i
 use Rattle.ecd_core.proofs.plain.atoms.text_fits.Goals as goal
 use Rattle.ecd_core.proofs.Telling.{tells_text, no_text, bad_text, no_true}
 

@@ -1,7 +1,7 @@
 use Rattle.std.specs.Option.{option_copied}
 use Rattle.std.proofs.Common.{◌≡◌, sym, ◌∙◌}
 use Rattle.ecd_keyorder.specs.declared.Order.TheVariants.{Bytewise}
-use Rattle.ecd_item.specs.declared.item.Item.TheVariants as i
+use Rattle.ecd_item_laws.specs.declared.item.Item.TheVariants as i
 use Rattle.ecd_core.proofs.plain.atoms.text_is.Goals as goal
 use Rattle.ecd_core.proofs.Telling.{tells_text_is, no_text_is, bad_text_is, no_true}
 

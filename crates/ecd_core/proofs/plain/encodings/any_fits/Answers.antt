@@ -1,7 +1,7 @@
 use Rattle.std.specs.Option.{option_copied}
 use Rattle.std.proofs.Common.{◌≡◌, sym, ◌∙◌}
 use Rattle.ecd_keyorder.specs.declared.Order.TheVariants.{Bytewise}
-use Rattle.ecd_item.specs.Encoding.{encoding}
+use Rattle.ecd_item_laws.specs.Encoding.{encoding}
 use Rattle.ecd_core.proofs.plain.encodings.any_fits.Goals as goal
 use Rattle.ecd_core.proofs.Telling.{tells_any, no_any, no_true}
 

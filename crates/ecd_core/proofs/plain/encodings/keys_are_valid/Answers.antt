@@ -1,7 +1,7 @@
 use Rattle.std.proofs.Common.{sym, ◌∙◌, refl}
 use Rattle.ecd_keyorder.specs.declared.Order.TheVariants.{Bytewise}
-use Rattle.ecd_item.specs.declared.item.Pair.{Pair}
-use Rattle.ecd_item.specs.Valid.{IsValid, IsWhole}
+use Rattle.ecd_item_laws.specs.declared.item.Pair.{Pair}
+use Rattle.ecd_item_laws.specs.Valid.{IsValid, IsWhole}
 use Rattle.ecd_core.proofs.Ascending.{each_place, each_more, each_all, each_so}
 use Rattle.ecd_core.proofs.Telling.{no_true}
 use Rattle.ecd_core.proofs.plain.encodings.keys_are_valid.Goals as goal

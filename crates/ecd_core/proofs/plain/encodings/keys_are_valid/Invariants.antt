@@ -1,7 +1,7 @@
 use Rattle.std.proofs.Common.{take}
 use Rattle.ecd_keyorder.specs.declared.Order.TheVariants.{Bytewise}
-use Rattle.ecd_item.specs.declared.item.Pair.{Pair}
-use Rattle.ecd_item.specs.Valid.{IsWhole}
+use Rattle.ecd_item_laws.specs.declared.item.Pair.{Pair}
+use Rattle.ecd_item_laws.specs.Valid.{IsWhole}
 use Rattle.ecd_core.specs.Lists.{Each}
 use Rattle.ecd_core.proofs.plain.encodings.keys_are_valid.Given as goal
 

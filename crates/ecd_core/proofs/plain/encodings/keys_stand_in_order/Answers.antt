@@ -1,8 +1,8 @@
 use Rattle.std.proofs.Common.{◌-◌, sym, ◌∙◌, arith}
 use Rattle.ecd_keyorder.specs.declared.Order.TheVariants.{Bytewise}
-use Rattle.ecd_item.specs.declared.item.Pair.{Pair}
-use Rattle.ecd_item.specs.Encoding.{key_bytes}
-use Rattle.ecd_item.specs.Valid.{IsWhole}
+use Rattle.ecd_item_laws.specs.declared.item.Pair.{Pair}
+use Rattle.ecd_item_laws.specs.Encoding.{key_bytes}
+use Rattle.ecd_item_laws.specs.Valid.{IsWhole}
 use Rattle.ecd_item.proofs.Whole.{ascend_one, ascend_next, ascend_fails, ascend_all}
 use Rattle.ecd_core.proofs.Ascending.{each_place}
 use Rattle.ecd_core.proofs.Telling.{no_true}
