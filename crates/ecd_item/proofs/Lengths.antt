@@ -1,8 +1,8 @@
 -- Lengths, and writing one value after the other.
-use Rattle.std.proofs.Common.{◌≡◌, ℕ, ◌+◌, ◌<◌, ◌≤◌, List, [], ◌∷◌, ◌++◌, length, take, map, get_or, ap, sym, ◌∙◌, arith, append_assoc}
+use Rattle.std.proofs.Common.{◌≡◌, ℕ, ◌+◌, ◌<◌, ◌≤◌, List, ◌++◌, length, take, map, get_or, ap, ◌∙◌, arith}
 use Rattle.std.specs.Prelude.{min}
 use Rattle.std.proofs.lemmas.Bool.Decides.{nat_tests}
-use Rattle.std.proofs.lemmas.List.{length-append, append-nil, take_more, map_push}
+use Rattle.std.proofs.lemmas.List.{length-append, take_more, map_push}
 use Rattle.ecd_head.specs.Head.{head_bytes}
 use Rattle.ecd_item_laws.specs.declared.item.Item.{Item}
 use Rattle.ecd_item_laws.specs.declared.item.Item.TheVariants.{Bytes, Text, Array, Map, Tag}
