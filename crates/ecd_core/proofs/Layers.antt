@@ -30,6 +30,12 @@ use Rattle.ecd_core.specs.Maps.{FieldMeaning, EntryMeaning, AField, APick, ATabl
 use Rattle.ecd_core.specs.Values.{IsWithin, Run, run_items, run_value, Gives, AlternativeGives, PartsGive, PartGives, WayGives, meanings, meaning, way_meanings, field_meanings, field_meaning, HasValue}
 use Rattle.ecd_core.specs.Listed.{IsAt, PartsHave, entries_mean, fields_mean, ways_mean}
 
+pub fwd : {A B : Type 0} → A ≡ B → A → B
+fwd e a = subst (λ (X : Type 0). X) e a
+
+pub bwd : {A B : Type 0} → A ≡ B → B → A
+bwd e b = subst (λ (X : Type 0). X) (sym e) b
+
 -- ---- rows are lists
 
 pub parts-shown : (s : List (Unit {0})) (r : _) → block.shown-the_row-Part-2 s r ≡ items-the_row-Part _ r
