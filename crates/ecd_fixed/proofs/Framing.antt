@@ -6,13 +6,13 @@ use mathlib.Core.Former.{Count}
 use denote.Hole.Carrier.{hidden}
 use Rattle.ecd_keyorder.specs.declared.Order.{Order}
 use Rattle.ecd_head.specs.Head.{IsWritable}
-use Rattle.ecd_item.specs.declared.item.Item.{Item, Row_of-Item, end_of-Item, more_of-Item, Row_of-Pair, end_of-Pair, more_of-Pair, items-the_row-Item, items-the_row-Pair}
-use Rattle.ecd_item.specs.declared.item.Item.TheBlock.{hidden-the_row-Item-0, hidden-the_row-Pair-1, hidden-the_row-Item-2, items_hidden-the_row-Item-0, items_hidden-the_row-Pair-1}
-use Rattle.ecd_item.specs.declared.item.Item.TheVariants.{Uint, Nint, Bytes, Text, Array, Map, Tag, Simple}
-use Rattle.ecd_item.specs.declared.item.Pair.{Pair}
-use Rattle.ecd_item.specs.Encoding.{encoding, encodings, pair_encodings}
-use Rattle.ecd_item.specs.Valid.{IsValid, IsValidPair}
-use Rattle.ecd_item.proofs.Layers.{encodings-list, pair_encoding, pairs-list, valid_Array, valid_Map, valid_Tag, item_ind}
+use Rattle.ecd_item_laws.specs.declared.item.Item.{Item, Row_of-Item, end_of-Item, more_of-Item, Row_of-Pair, end_of-Pair, more_of-Pair, items-the_row-Item, items-the_row-Pair}
+use Rattle.ecd_item_laws.specs.declared.item.Item.TheBlock.{hidden-the_row-Item-0, hidden-the_row-Pair-1, hidden-the_row-Item-2, items_hidden-the_row-Item-0, items_hidden-the_row-Pair-1}
+use Rattle.ecd_item_laws.specs.declared.item.Item.TheVariants.{Uint, Nint, Bytes, Text, Array, Map, Tag, Simple}
+use Rattle.ecd_item_laws.specs.declared.item.Pair.{Pair}
+use Rattle.ecd_item_laws.specs.Encoding.{encoding, encodings, pair_encodings}
+use Rattle.ecd_item_laws.specs.Valid.{IsValid, IsValidPair}
+use Rattle.ecd_item_laws.proofs.Layers.{encodings-list, pair_encoding, pairs-list, valid_Array, valid_Map, valid_Tag, item_ind}
 use Rattle.ecd_fixed.specs.Framed.{IsFramed, AreFramed, ArePairsFramed}
 
 abbrev pub IsFramedPair : Pair → Type 0

@@ -8,7 +8,7 @@ use Rattle.ecd_head.specs.declared.HeadFault.{HeadFault}
 use Rattle.ecd_head.specs.declared.Head.{Head}
 use Rattle.ecd_head.specs.Fault.{head_at}
 use Rattle.ecd_head.proofs.Heads.{IsBytes-drop, count_fits}
-use Rattle.ecd_item.specs.Encoding.{encoding}
+use Rattle.ecd_item_laws.specs.Encoding.{encoding}
 use Rattle.ecd_fixed.specs.Windows.{IsBytes, IsEnd}
 use Rattle.ecd_fixed.specs.Framed.{ItemStands}
 use Rattle.ecd_fixed.specs.Extents.{string_behind, least_behind, inside, own_end_of}

@@ -3,12 +3,12 @@ use Rattle.std.proofs.Common.{◌≡◌, ℕ, zero, suc, ◌+◌, List, [], ◌�
 use Rattle.std.specs.List.{AllByRecursion}
 use Rattle.ecd_head.specs.declared.Head.{Head}
 use Rattle.ecd_head.specs.Head.{IsWritable, head_bytes}
-use Rattle.ecd_item.specs.declared.item.Item.{Item}
-use Rattle.ecd_item.specs.declared.item.Item.TheVariants.{Uint, Nint, Bytes, Text, Array, Map, Tag, Simple}
-use Rattle.ecd_item.specs.declared.item.Pair.{Pair}
-use Rattle.ecd_item.specs.Encoding.{encoding, joined, pair_bytes}
-use Rattle.ecd_item.specs.Parts.{head_from}
-use Rattle.ecd_item.proofs.Layers.{encoding-Uint, encoding-Nint, encoding-Bytes, encoding-Text, encoding-Simple, encoding-Array, encoding-Map, encoding-Tag, item_ind}
+use Rattle.ecd_item_laws.specs.declared.item.Item.{Item}
+use Rattle.ecd_item_laws.specs.declared.item.Item.TheVariants.{Uint, Nint, Bytes, Text, Array, Map, Tag, Simple}
+use Rattle.ecd_item_laws.specs.declared.item.Pair.{Pair}
+use Rattle.ecd_item_laws.specs.Encoding.{encoding, joined, pair_bytes}
+use Rattle.ecd_item_laws.specs.Parts.{head_from}
+use Rattle.ecd_item_laws.proofs.Layers.{encoding-Uint, encoding-Nint, encoding-Bytes, encoding-Text, encoding-Simple, encoding-Array, encoding-Map, encoding-Tag, item_ind}
 use Rattle.ecd_fixed.specs.Framed.{IsFramed}
 use Rattle.ecd_fixed.specs.Extents.{string_behind, inside}
 use Rattle.ecd_fixed.proofs.Framing.{IsFramedPair, framed_Uint, framed_Nint, framed_Bytes, framed_Text, framed_Simple, framed_Array, framed_Map, framed_Tag, Uint_framed, Nint_framed, Bytes_framed, Text_framed, Simple_framed, Array_framed, Map_framed, Tag_framed}

@@ -8,8 +8,8 @@ use Rattle.ecd_head.specs.declared.Head.{Head}
 use Rattle.ecd_head.specs.Head.{head_bytes}
 use Rattle.ecd_head.specs.Fault.{head_at}
 use Rattle.ecd_head.proofs.Heads.{head_takes, head_again}
-use Rattle.ecd_item.specs.declared.item.Item.{Item}
-use Rattle.ecd_item.specs.Encoding.{encoding, joined}
+use Rattle.ecd_item_laws.specs.declared.item.Item.{Item}
+use Rattle.ecd_item_laws.specs.Encoding.{encoding, joined}
 use Rattle.ecd_fixed.specs.Windows.{IsBytes}
 use Rattle.ecd_fixed.specs.Framed.{IsFramed, FramedEndOnce}
 use Rattle.ecd_fixed.specs.Extents.{string_behind, least_behind, inside}

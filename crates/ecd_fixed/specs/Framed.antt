@@ -3,10 +3,10 @@ use Rattle.std.specs.Prelude.{◌≡◌, ℕ, List, ◌++◌, length}
 use Rattle.ecd_keyorder.specs.declared.Order.{Order}
 use Rattle.ecd_head.specs.Head.{IsWritable}
 use Rattle.ecd_head.specs.Place.{StandsAt}
-use Rattle.ecd_item.specs.declared.item.Item.{Item, Row_of-Item, end_of-Item, more_of-Item, Array', Map', Tag', Row_of-Pair, end_of-Pair, more_of-Pair}
-use Rattle.ecd_item.specs.declared.item.Item.TheVariants.{Uint, Nint, Bytes, Text, Simple}
-use Rattle.ecd_item.specs.Encoding.{encoding, encodings, pair_encodings}
-use Rattle.ecd_item.specs.Valid.{IsValid}
+use Rattle.ecd_item_laws.specs.declared.item.Item.{Item, Row_of-Item, end_of-Item, more_of-Item, Array', Map', Tag', Row_of-Pair, end_of-Pair, more_of-Pair}
+use Rattle.ecd_item_laws.specs.declared.item.Item.TheVariants.{Uint, Nint, Bytes, Text, Simple}
+use Rattle.ecd_item_laws.specs.Encoding.{encoding, encodings, pair_encodings}
+use Rattle.ecd_item_laws.specs.Valid.{IsValid}
 
 -- The head of the item and the heads of all items inside it are writable.
 unfoldable mutual

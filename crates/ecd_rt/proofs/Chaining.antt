@@ -14,7 +14,7 @@ use Rattle.ecd_cast.specs.Meaning.{calls_of}
 use Rattle.ecd_cast.specs.Validity.{IsValidAfter}
 use Rattle.ecd_cast.specs.Spelling.{IsSpelledItem, IsName}
 use Rattle.ecd_keyorder.specs.declared.Order.TheVariants.{Bytewise}
-use Rattle.ecd_item.specs.Reading.{item_at, many, pairs}
+use Rattle.ecd_item_laws.specs.Reading.{item_at, many, pairs}
 use Rattle.ecd_fixed.specs.Meanings.{HeadArgument}
 use Rattle.ecd_fixed.specs.Heads.{head_argument}
 use Rattle.ecd_fixed.specs.Extents.{own_end, OwnEnd}

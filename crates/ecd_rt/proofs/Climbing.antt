@@ -6,7 +6,7 @@ use Rattle.ecd_cast.specs.declared.tree.CItem.{CItem}
 use Rattle.ecd_cast.specs.Meaning.{calls_of}
 use Rattle.ecd_cast.specs.Ends.{Does}
 use Rattle.ecd_keyorder.specs.declared.Order.TheVariants.{Bytewise}
-use Rattle.ecd_item.specs.Reading.{item_at}
+use Rattle.ecd_item_laws.specs.Reading.{item_at}
 use Rattle.ecd_fixed.specs.Windows.{Callee, IsEnd, asked}
 use Rattle.ecd_fixed.specs.Heads.{head_argument}
 use Rattle.ecd_fixed.specs.Extents.{own_end}

@@ -20,10 +20,10 @@ use Rattle.ecd_head.specs.declared.Head.{Head}
 use Rattle.ecd_head.specs.Fault.{head_at}
 use Rattle.ecd_head.proofs.Heads.{IsBytes-drop}
 use Rattle.ecd_keyorder.specs.declared.Order.TheVariants.{Bytewise}
-use Rattle.ecd_item.specs.declared.item.Item.{Item}
-use Rattle.ecd_item.specs.Reading.{Reader, item_at, inner_of, layer, behind, parts, many, pairs}
-use Rattle.ecd_item.proofs.Again.{item_at-layer}
-use Rattle.ecd_item.specs.Parts.{head_from}
+use Rattle.ecd_item_laws.specs.declared.item.Item.{Item}
+use Rattle.ecd_item_laws.specs.Reading.{Reader, item_at, inner_of, layer, behind, parts, many, pairs}
+use Rattle.ecd_item_laws.proofs.Again.{item_at-layer}
+use Rattle.ecd_item_laws.specs.Parts.{head_from}
 use Rattle.ecd_fixed.specs.Variables as v
 use Rattle.ecd_fixed.specs.Windows.{IsBytes, Window, asked}
 use Rattle.ecd_fixed.specs.Meanings.{HeadArgument}

@@ -15,9 +15,9 @@ use Rattle.ecd_cast.specs.Meaning.{Calls, called}
 use Rattle.ecd_cast.specs.Ends.{Answers}
 use Rattle.ecd_cast.specs.Rules.{Works}
 use Rattle.ecd_cast.proofs.Rules.{return_rule, let_rule, assign_call_goes, guard_goes, nil_goes, called_rule, works_within}
-use Rattle.ecd_item.specs.declared.fault.Fault.{Fault}
-use Rattle.ecd_item.specs.declared.item.Item.{Item}
-use Rattle.ecd_item.specs.Reading.{Reader, Taken, many}
+use Rattle.ecd_item_laws.specs.declared.fault.Fault.{Fault}
+use Rattle.ecd_item_laws.specs.declared.item.Item.{Item}
+use Rattle.ecd_item_laws.specs.Reading.{Reader, Taken, many}
 use Rattle.ecd_fixed.specs.Variables as v
 use Rattle.ecd_fixed.specs.Windows.{Callee, Window, asked}
 use Rattle.ecd_fixed.proofs.Numbers.{long}

@@ -19,9 +19,9 @@ use Rattle.ecd_cast.specs.Rules.{Works, Goes}
 use Rattle.ecd_cast.proofs.Calculus.{ends_within}
 use Rattle.ecd_cast.proofs.Rules.{return_rule, let_rule, let_goes, assign_goes, call_goes, assign_call_goes, guard_goes, nil_goes, called_rule, works_within}
 use Rattle.ecd_keyorder.specs.declared.Order.TheVariants.{Bytewise}
-use Rattle.ecd_item.specs.declared.fault.Fault.{Fault}
-use Rattle.ecd_item.specs.declared.item.Item.{Item}
-use Rattle.ecd_item.specs.Reading.{Reader, Taken, pairs, is_above, is_less}
+use Rattle.ecd_item_laws.specs.declared.fault.Fault.{Fault}
+use Rattle.ecd_item_laws.specs.declared.item.Item.{Item}
+use Rattle.ecd_item_laws.specs.Reading.{Reader, Taken, pairs, is_above, is_less}
 use Rattle.ecd_fixed.specs.Variables as v
 use Rattle.ecd_fixed.specs.Windows.{Window}
 use Rattle.ecd_fixed.specs.Compare.{ComparesBytes, order_number}

@@ -8,9 +8,9 @@ use Rattle.ecd_keyorder.specs.declared.Order.TheVariants.{Bytewise}
 use Rattle.ecd_head.specs.declared.Head.{Head}
 use Rattle.ecd_head.specs.Place.{StandsAt}
 use Rattle.ecd_head.specs.Fault.{head_at}
-use Rattle.ecd_item.specs.declared.item.Item.{Item}
-use Rattle.ecd_item.specs.Encoding.{encoding}
-use Rattle.ecd_item.specs.Valid.{IsWhole}
+use Rattle.ecd_item_laws.specs.declared.item.Item.{Item}
+use Rattle.ecd_item_laws.specs.Encoding.{encoding}
+use Rattle.ecd_item_laws.specs.Valid.{IsWhole}
 use Rattle.ecd_fixed.specs.Windows.{Callee, Window, IsEnd, asked}
 use Rattle.ecd_fixed.specs.Extents.{AnswersWithin}
 
