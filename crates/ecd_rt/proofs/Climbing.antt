@@ -4,7 +4,7 @@ use Rattle.std.specs.Prelude.{nat_eq}
 use Rattle.std.proofs.lemmas.Bool.{eqb-true, eqb-false}
 use Rattle.ecd_cast.specs.declared.tree.CItem.{CItem}
 use Rattle.ecd_cast.specs.Meaning.{calls_of}
-use Rattle.ecd_cast.specs.Ends.{Does}
+use Rattle.ecd_calculus.specs.Ends.{Does}
 use Rattle.ecd_keyorder.specs.declared.Order.TheVariants.{Bytewise}
 use Rattle.ecd_item.specs.Reading.{item_at}
 use Rattle.ecd_fixed.specs.Windows.{Callee, IsEnd, asked}

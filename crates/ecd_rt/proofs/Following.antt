@@ -12,9 +12,9 @@ use Rattle.ecd_cast.specs.declared.value.Value.TheVariants.{Number as Num, Bytes
 use Rattle.ecd_cast.specs.Memory.{Memory}
 use Rattle.ecd_cast.specs.Expressions.{Scopes}
 use Rattle.ecd_cast.specs.Meaning.{Calls, called}
-use Rattle.ecd_cast.specs.Ends.{Answers}
-use Rattle.ecd_cast.specs.Rules.{Works}
-use Rattle.ecd_cast.proofs.Rules.{return_rule, let_rule, assign_call_goes, guard_goes, nil_goes, called_rule, works_within}
+use Rattle.ecd_calculus.specs.Ends.{Answers}
+use Rattle.ecd_calculus.specs.Rules.{Works}
+use Rattle.ecd_calculus.proofs.Rules.{return_rule, let_rule, assign_call_goes, guard_goes, nil_goes, called_rule, works_within}
 use Rattle.ecd_item.specs.declared.fault.Fault.{Fault}
 use Rattle.ecd_item.specs.declared.item.Item.{Item}
 use Rattle.ecd_item.specs.Reading.{Reader, Taken, many}

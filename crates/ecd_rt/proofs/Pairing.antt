@@ -14,10 +14,10 @@ use Rattle.ecd_cast.specs.declared.value.Value.TheVariants.{Number as Num, Bytes
 use Rattle.ecd_cast.specs.Memory.{Memory}
 use Rattle.ecd_cast.specs.Expressions.{Scopes, Frame, modulus}
 use Rattle.ecd_cast.specs.Meaning.{Run, Calls, called, leave}
-use Rattle.ecd_cast.specs.Ends.{With, Answers}
-use Rattle.ecd_cast.specs.Rules.{Works, Goes}
-use Rattle.ecd_cast.proofs.Calculus.{ends_within}
-use Rattle.ecd_cast.proofs.Rules.{return_rule, let_rule, let_goes, assign_goes, call_goes, assign_call_goes, guard_goes, nil_goes, called_rule, works_within}
+use Rattle.ecd_calculus.specs.Ends.{With, Answers}
+use Rattle.ecd_calculus.specs.Rules.{Works, Goes}
+use Rattle.ecd_calculus.proofs.Calculus.{ends_within}
+use Rattle.ecd_calculus.proofs.Rules.{return_rule, let_rule, let_goes, assign_goes, call_goes, assign_call_goes, guard_goes, nil_goes, called_rule, works_within}
 use Rattle.ecd_keyorder.specs.declared.Order.TheVariants.{Bytewise}
 use Rattle.ecd_item.specs.declared.fault.Fault.{Fault}
 use Rattle.ecd_item.specs.declared.item.Item.{Item}

@@ -7,7 +7,7 @@ ghost use Rattle.ecd_fixed.specs.Standing.{AreNew, IsAmong, HeadWriterIsThere, H
 ghost use Rattle.ecd_rt.specs.Standing.{FrontIsThere, FrontMeans};
 ghost use Rattle.ecd_rt.specs.Runtime.{front_functions, front_names, writing_functions, writing_names};
 
-use ecd_cast::builder::Builder;
+use ecd_cbuild::builder::Builder;
 use ecd_fixed::{comparison, copier, extents, head_writer, heads, utf8_check};
 use ecd_list::OutOfMemory;
 use std::alloc::Global;

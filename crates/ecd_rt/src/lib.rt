@@ -15,7 +15,7 @@ mod tests;
 
 use crate::any::any_chain;
 use crate::base::{put_front, put_writing};
-use ecd_cast::builder::Builder;
+use ecd_cbuild::builder::Builder;
 use ecd_list::OutOfMemory;
 use std::alloc::Global;
 
