@@ -12,7 +12,7 @@ use crate::calls::run;
 use crate::fitting::{item_takes, struct_at};
 use crate::meter::Meter;
 use crate::state::State;
-use ecd_cast::builder::Valid;
+use ecd_cbuild::builder::Valid;
 use ecd_cast::tree::{CItem, StructDecl};
 use ecd_cast::value::Cell;
 use ecd_list::{ByteList, List, OutOfMemory};

@@ -15,7 +15,7 @@ mod thin;
 use crate::reader::reader;
 use crate::schema::schema_tree;
 use crate::thin::thin_number;
-use ecd_cast::builder::Valid;
+use ecd_cbuild::builder::Valid;
 use ecd_cprint::print;
 use ecd_lex::MOST_BYTES;
 use ecd_list::ByteList;

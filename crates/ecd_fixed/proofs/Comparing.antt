@@ -21,9 +21,9 @@ use Rattle.ecd_cast.specs.Meaning.{Calls, called, calls_of, leave}
 use Rattle.ecd_cast.specs.Kept.{IsNew}
 use Rattle.ecd_cast.specs.Validity.{IsValidAfter}
 use Rattle.ecd_cast.specs.Spelling.{IsSpelledItem}
-use Rattle.ecd_cast.specs.Ends.{Answers}
-use Rattle.ecd_cast.specs.Rules.{Goes, Works}
-use Rattle.ecd_cast.proofs.Rules.{return_rule, guard_rule, for_rule, guard_goes, nil_goes, called_rule, works_within}
+use Rattle.ecd_calculus.specs.Ends.{Answers}
+use Rattle.ecd_calculus.specs.Rules.{Goes, Works}
+use Rattle.ecd_calculus.proofs.Rules.{return_rule, guard_rule, for_rule, guard_goes, nil_goes, called_rule, works_within}
 use Rattle.ecd_fixed.specs.Variables as v
 use Rattle.ecd_fixed.specs.Windows.{Window}
 use Rattle.ecd_fixed.specs.Compare.{compare_bytes, compare_turn, compare_lengths, order_number, ComparesBytes}

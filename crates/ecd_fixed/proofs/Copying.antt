@@ -18,13 +18,13 @@ use Rattle.ecd_cast.specs.Memory.{Memory, Bytes, Event, WritesByte, after}
 use Rattle.ecd_cast.specs.Expressions.{Scopes, modulus}
 use Rattle.ecd_cast.specs.Meaning.{Calls, Place, called, calls_of, does, shifted, count_of}
 use Rattle.ecd_cast.specs.Kept.{IsNew}
-use Rattle.ecd_cast.specs.Laws.{written, TurnsFall}
+use Rattle.ecd_calculus.specs.Laws.{written, TurnsFall}
 use Rattle.ecd_cast.specs.Validity.{IsValidAfter}
 use Rattle.ecd_cast.specs.Spelling.{IsSpelledItem}
-use Rattle.ecd_cast.specs.Ends.{Ends, Behind, With, Does}
-use Rattle.ecd_cast.proofs.Calculus.{block_falls, ends_within, fall_ends}
-use Rattle.ecd_cast.proofs.Frame.{after_other}
-use Rattle.ecd_cast.proofs.Loops.{loop_falls}
+use Rattle.ecd_calculus.specs.Ends.{Ends, Behind, With, Does}
+use Rattle.ecd_calculus.proofs.Calculus.{block_falls, ends_within, fall_ends}
+use Rattle.ecd_calculus.proofs.Frame.{after_other}
+use Rattle.ecd_calculus.proofs.Loops.{loop_falls}
 use Rattle.ecd_fixed.specs.Variables as v
 use Rattle.ecd_fixed.specs.Windows.{Window}
 use Rattle.ecd_fixed.specs.Writes.{Room, puts}

@@ -11,9 +11,9 @@ use Rattle.ecd_cast.specs.declared.value.Value.TheVariants.{Number as Num, Bytes
 use Rattle.ecd_cast.specs.Memory.{Memory}
 use Rattle.ecd_cast.specs.Expressions.{Scopes, modulus}
 use Rattle.ecd_cast.specs.Meaning.{Calls, called, leave}
-use Rattle.ecd_cast.specs.Ends.{Answers}
-use Rattle.ecd_cast.specs.Rules.{Goes, Works}
-use Rattle.ecd_cast.proofs.Rules.{return_rule, let_rule, call_rule, guard_rule, called_rule, call_goes, guard_goes, assign_goes, nil_goes}
+use Rattle.ecd_calculus.specs.Ends.{Answers}
+use Rattle.ecd_calculus.specs.Rules.{Goes, Works}
+use Rattle.ecd_calculus.proofs.Rules.{return_rule, let_rule, call_rule, guard_rule, called_rule, call_goes, guard_goes, assign_goes, nil_goes}
 use Rattle.ecd_head.specs.declared.HeadFault.{HeadFault}
 use Rattle.ecd_head.specs.declared.Head.{Head}
 use Rattle.ecd_head.specs.Fault.{head_at}

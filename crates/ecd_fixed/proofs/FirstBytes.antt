@@ -9,8 +9,8 @@ use Rattle.ecd_cast.specs.declared.value.Value.TheVariants.{Number as Num}
 use Rattle.ecd_cast.specs.Memory.{Memory}
 use Rattle.ecd_cast.specs.Expressions.{Gives}
 use Rattle.ecd_cast.specs.Meaning.{Calls, called}
-use Rattle.ecd_cast.specs.Ends.{Answers}
-use Rattle.ecd_cast.proofs.Rules.{return_rule, let_rule, guard_rule, called_rule}
+use Rattle.ecd_calculus.specs.Ends.{Answers}
+use Rattle.ecd_calculus.proofs.Rules.{return_rule, let_rule, guard_rule, called_rule}
 use Rattle.ecd_fixed.specs.Firsts.{size_from, least_from}
 use Rattle.ecd_fixed.specs.Heads.{head_size, head_least}
 

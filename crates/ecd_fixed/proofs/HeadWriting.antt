@@ -15,8 +15,8 @@ use Rattle.ecd_cast.specs.Expressions.{Frame, Scopes, lookup, given, Gives, modu
 use Rattle.ecd_cast.specs.Meaning.{Calls, called, calls_of}
 use Rattle.ecd_cast.specs.Validity.{IsValidAfter}
 use Rattle.ecd_cast.specs.Spelling.{IsSpelledItem}
-use Rattle.ecd_cast.specs.Ends.{Answers, Does}
-use Rattle.ecd_cast.proofs.Rules.{return_rule, guard_rule, called_rule}
+use Rattle.ecd_calculus.specs.Ends.{Answers, Does}
+use Rattle.ecd_calculus.proofs.Rules.{return_rule, guard_rule, called_rule}
 use Rattle.ecd_head.specs.Head.{head_bytes}
 use Rattle.ecd_head.proofs.Heads.{head_bytes-1, head_bytes-2, head_bytes-3, head_bytes-5, head_bytes-9}
 use Rattle.ecd_fixed.specs.Variables as v

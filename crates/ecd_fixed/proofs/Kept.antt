@@ -9,7 +9,7 @@ use Rattle.ecd_cast.specs.Memory.{Name}
 use Rattle.ecd_cast.specs.Kept.{IsNew}
 use Rattle.ecd_cast.specs.Meaning.{calls_of}
 use Rattle.ecd_cast.specs.Validity.{functions_of, function_named}
-use Rattle.ecd_cast.proofs.Calculus.{calls_kept}
+use Rattle.ecd_calculus.proofs.Calculus.{calls_kept}
 use Rattle.ecd_fixed.specs.Windows.{Callee}
 use Rattle.ecd_fixed.specs.Firsts.{size_from, least_from}
 use Rattle.ecd_fixed.specs.Meanings.{LoadsNumber, OfFirst, HeadArgument, HeadEnd, HeadWithin}

@@ -10,8 +10,8 @@ use Rattle.ecd_cast.specs.declared.value.Value.TheVariants.{Number as Num, Bytes
 use Rattle.ecd_cast.specs.Memory.{Memory}
 use Rattle.ecd_cast.specs.Expressions.{modulus}
 use Rattle.ecd_cast.specs.Meaning.{Calls, called}
-use Rattle.ecd_cast.specs.Ends.{Answers}
-use Rattle.ecd_cast.proofs.Rules.{return_rule, call_rule, called_rule}
+use Rattle.ecd_calculus.specs.Ends.{Answers}
+use Rattle.ecd_calculus.proofs.Rules.{return_rule, call_rule, called_rule}
 use Rattle.ecd_fixed.specs.Windows.{Window, placed}
 use Rattle.ecd_fixed.specs.Meanings.{LoadsNumber}
 use Rattle.ecd_fixed.specs.Heads.{load_be16, load_be32, load_be64}

@@ -11,7 +11,7 @@ use Rattle.ecd_cast.specs.Kept.{IsNew}
 use Rattle.ecd_cast.specs.Meaning.{calls_of, called, with_item}
 use Rattle.ecd_cast.specs.Validity.{IsValidAfter, functions_of, function_named}
 use Rattle.ecd_cast.specs.Spelling.{IsSpelledItem}
-use Rattle.ecd_cast.proofs.Calculus.{calls_append}
+use Rattle.ecd_calculus.proofs.Calculus.{calls_append}
 use Rattle.ecd_head.specs.declared.Head.{Head}
 use Rattle.ecd_fixed.specs.Windows.{Callee}
 use Rattle.ecd_fixed.specs.Firsts.{size_from, least_from}

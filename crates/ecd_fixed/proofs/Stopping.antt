@@ -6,9 +6,9 @@ use Rattle.ecd_cast.specs.declared.value.Value.TheVariants.{Number as Num}
 use Rattle.ecd_cast.specs.Memory.{Name, Memory}
 use Rattle.ecd_cast.specs.Expressions.{Scopes, lookup, given, Gives}
 use Rattle.ecd_cast.specs.Meaning.{Run, Calls, Place, Code, block, does, shifted, turns, leave}
-use Rattle.ecd_cast.specs.Ends.{Ends, With, Answers}
-use Rattle.ecd_cast.specs.Rules.{Works, Goes}
-use Rattle.ecd_cast.proofs.Calculus.{block_returns, ends_step, ends_then, returns_then, ends_within}
+use Rattle.ecd_calculus.specs.Ends.{Ends, With, Answers}
+use Rattle.ecd_calculus.specs.Rules.{Works, Goes}
+use Rattle.ecd_calculus.proofs.Calculus.{block_returns, ends_step, ends_then, returns_then, ends_within}
 use Rattle.ecd_cast.proofs.Layers.{does-For}
 
 -- what a turn before the turn j does

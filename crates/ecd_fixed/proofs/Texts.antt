@@ -14,9 +14,9 @@ use Rattle.ecd_cast.specs.Expressions.{Scopes, Gives, both}
 use Rattle.ecd_cast.specs.Meaning.{Calls, called, calls_of, leave}
 use Rattle.ecd_cast.specs.Validity.{IsValidAfter}
 use Rattle.ecd_cast.specs.Spelling.{IsSpelledItem}
-use Rattle.ecd_cast.specs.Ends.{Answers}
-use Rattle.ecd_cast.specs.Rules.{Goes, Works}
-use Rattle.ecd_cast.proofs.Rules.{return_rule, let_rule, call_rule, if_rule, guard_rule, for_rule, let_goes, assign_call_goes, guard_goes, nil_goes, called_rule, works_within}
+use Rattle.ecd_calculus.specs.Ends.{Answers}
+use Rattle.ecd_calculus.specs.Rules.{Goes, Works}
+use Rattle.ecd_calculus.proofs.Rules.{return_rule, let_rule, call_rule, if_rule, guard_rule, for_rule, let_goes, assign_call_goes, guard_goes, nil_goes, called_rule, works_within}
 use Rattle.ecd_fixed.specs.Variables as v
 use Rattle.ecd_fixed.specs.Windows.{Window}
 use Rattle.ecd_fixed.specs.Utf8.{begun, gone_on, next_state, state_behind, one_where, utf8_begin, utf8_next, utf8_valid, valid_turn, valid_end, utf8_names, utf8_functions, BeginsUtf8, GoesOnUtf8, ChecksUtf8}

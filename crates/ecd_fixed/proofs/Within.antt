@@ -10,9 +10,9 @@ use Rattle.ecd_cast.specs.declared.value.Value.TheVariants.{Number as Num}
 use Rattle.ecd_cast.specs.Memory.{Name, Memory}
 use Rattle.ecd_cast.specs.Expressions.{Scopes, lookup, given, Gives}
 use Rattle.ecd_cast.specs.Meaning.{Run, Calls, Place, Code, block, does, called, frame_of, shifted, count_of, turns, declare, leave, fall}
-use Rattle.ecd_cast.specs.Ends.{Ends, Behind, With, Does}
-use Rattle.ecd_cast.specs.Rules.{Works, Passes, Goes, Is}
-use Rattle.ecd_cast.proofs.Calculus.{block_falls, block_returns, ends_called, ends_step, ends_then, returns_then, ends_within, fall_ends}
+use Rattle.ecd_calculus.specs.Ends.{Ends, Behind, With, Does}
+use Rattle.ecd_calculus.specs.Rules.{Works, Passes, Goes, Is}
+use Rattle.ecd_calculus.proofs.Calculus.{block_falls, block_returns, ends_called, ends_step, ends_then, returns_then, ends_within, fall_ends}
 use Rattle.ecd_cast.proofs.Layers.{does-For}
 use Rattle.ecd_fixed.specs.Extents.{AnswersWithin}
 

@@ -13,9 +13,9 @@ use Rattle.ecd_cast.specs.declared.value.Value.TheVariants.{Number as Num, Bytes
 use Rattle.ecd_cast.specs.Memory.{Name, Memory, Bytes, Event, WritesByte, after, event}
 use Rattle.ecd_cast.specs.Expressions.{Scopes, lookup, given, Gives}
 use Rattle.ecd_cast.specs.Meaning.{Calls, Place, block, does, called, frame_of, shifted, count_of, declare}
-use Rattle.ecd_cast.specs.Ends.{Ends, Behind, With, Does}
-use Rattle.ecd_cast.specs.Rules.{Is, Tells, Hands}
-use Rattle.ecd_cast.proofs.Calculus.{block_falls, block_returns, call_declares, returns_scoped, ends_called, ends_within, fall_ends}
+use Rattle.ecd_calculus.specs.Ends.{Ends, Behind, With, Does}
+use Rattle.ecd_calculus.specs.Rules.{Is, Tells, Hands}
+use Rattle.ecd_calculus.proofs.Calculus.{block_falls, block_returns, call_declares, returns_scoped, ends_called, ends_within, fall_ends}
 use Rattle.ecd_cast.proofs.Layers.{does-If}
 use Rattle.ecd_fixed.specs.Writes.{Room, puts, PutsAreWritten}
 

@@ -12,7 +12,7 @@ use Rattle.ecd_cast.specs.declared.tree.Stmt.TheVariants.{For, Return}
 use Rattle.ecd_cast.specs.declared.tree.Function.{Function}
 use Rattle.ecd_cast.specs.declared.value.Value.TheVariants.{Number as Num, Bytes as Ptr}
 use Rattle.ecd_cast.specs.Memory.{Memory}
-use Rattle.ecd_cast.specs.Ends.{Answers}
+use Rattle.ecd_calculus.specs.Ends.{Answers}
 use Rattle.ecd_fixed.specs.Shorthands.{number, pointer, guard}
 use Rattle.ecd_fixed.specs.Variables as v
 use Rattle.ecd_fixed.specs.Windows.{Callee, Window}

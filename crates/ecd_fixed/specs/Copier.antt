@@ -7,7 +7,7 @@ use Rattle.ecd_cast.specs.declared.tree.Stmt.TheVariants.{Store, For, Return}
 use Rattle.ecd_cast.specs.declared.tree.Function.{Function}
 use Rattle.ecd_cast.specs.declared.value.Value.TheVariants.{Number as Num, Bytes as Ptr}
 use Rattle.ecd_cast.specs.Memory.{Memory}
-use Rattle.ecd_cast.specs.Ends.{Does}
+use Rattle.ecd_calculus.specs.Ends.{Does}
 use Rattle.ecd_fixed.specs.Shorthands.{number, pointer, output}
 use Rattle.ecd_fixed.specs.Variables as v
 use Rattle.ecd_fixed.specs.Windows.{Callee, Window}

@@ -12,7 +12,7 @@ use Rattle.ecd_cast.specs.declared.tree.CItem.{CItem}
 use Rattle.ecd_cast.specs.declared.tree.CItem.TheVariants.{Function as AFunction}
 use Rattle.ecd_cast.specs.Memory.{Name, Memory}
 use Rattle.ecd_cast.specs.Meaning.{Run}
-use Rattle.ecd_cast.specs.Ends.{Answers, Does}
+use Rattle.ecd_calculus.specs.Ends.{Answers, Does}
 use Rattle.ecd_head.specs.declared.HeadFault.{HeadFault}
 use Rattle.ecd_head.specs.declared.Head.{Head}
 use Rattle.ecd_head.specs.Fault.{head_at}

@@ -12,7 +12,7 @@ use Rattle.ecd_cast.specs.declared.tree.CItem.{CItem}
 use Rattle.ecd_cast.specs.declared.tree.CItem.TheVariants.{Function as AFunction}
 use Rattle.ecd_cast.specs.declared.value.Value.TheVariants.{Number as Num, Bytes as Ptr}
 use Rattle.ecd_cast.specs.Memory.{Name, Memory}
-use Rattle.ecd_cast.specs.Ends.{Answers, Does}
+use Rattle.ecd_calculus.specs.Ends.{Answers, Does}
 use Rattle.ecd_head.specs.Head.{head_bytes}
 use Rattle.ecd_fixed.specs.Shorthands.{number, output, plus, let_number, let_call, guard}
 use Rattle.ecd_fixed.specs.Variables as v

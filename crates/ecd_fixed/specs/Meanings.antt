@@ -3,7 +3,7 @@ use Rattle.std.specs.Prelude.{ℕ, ◌+◌, ◌≤◌, ◌≡◌, ◌≢◌, Lis
 use Rattle.std.specs.Int.{Width, byte_len, from_be_bytes}
 use Rattle.ecd_cast.specs.declared.value.Value.TheVariants.{Number as Num, Bytes as Ptr}
 use Rattle.ecd_cast.specs.Memory.{Memory}
-use Rattle.ecd_cast.specs.Ends.{Answers}
+use Rattle.ecd_calculus.specs.Ends.{Answers}
 use Rattle.ecd_head.specs.declared.HeadFault.{HeadFault}
 use Rattle.ecd_head.specs.declared.Head.{Head}
 use Rattle.ecd_head.specs.Head.{IsWritable, head_bytes}

@@ -12,7 +12,7 @@ use Rattle.ecd_cast.specs.declared.tree.CItem.{CItem}
 use Rattle.ecd_cast.specs.declared.tree.CItem.TheVariants.{Function as AFunction}
 use Rattle.ecd_cast.specs.declared.value.Value.TheVariants.{Number as Num, Bytes as Ptr}
 use Rattle.ecd_cast.specs.Memory.{Name, Memory}
-use Rattle.ecd_cast.specs.Ends.{Answers}
+use Rattle.ecd_calculus.specs.Ends.{Answers}
 use Rattle.ecd_fixed.specs.Shorthands.{number, pointer, let_number, guard, guard_call}
 use Rattle.ecd_fixed.specs.Variables as v
 use Rattle.ecd_fixed.specs.Windows.{Callee, Window}

@@ -13,8 +13,8 @@ ghost use Rattle.ecd_fixed.specs.Compare.{ComparesBytes};
 ghost use Rattle.ecd_fixed.specs.Standing.{IsAmong};
 
 use crate::shorthands::{function, guard, number, pointer};
-use ecd_cast::build::{give, load, name, one, var};
-use ecd_cast::builder::Builder;
+use ecd_cbuild::build::{give, load, name, one, var};
+use ecd_cbuild::builder::Builder;
 use ecd_cast::tree::{CItem, Expr, Function, Op, ParamList, Stmt, StmtList};
 use ecd_list::OutOfMemory;
 use std::alloc::Global;

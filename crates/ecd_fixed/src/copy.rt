@@ -11,8 +11,8 @@ ghost use Rattle.ecd_fixed.specs.Copier.{CopiesBytes};
 ghost use Rattle.ecd_fixed.specs.Standing.{IsAmong};
 
 use crate::shorthands::{function, number, of_two, output, pointer, put};
-use ecd_cast::build::{load, name, one, var};
-use ecd_cast::builder::Builder;
+use ecd_cbuild::build::{load, name, one, var};
+use ecd_cbuild::builder::Builder;
 use ecd_cast::tree::{CItem, Function, Op, ParamList, Stmt, StmtList};
 use ecd_list::OutOfMemory;
 use std::alloc::Global;

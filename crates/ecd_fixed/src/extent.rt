@@ -14,8 +14,8 @@ use crate::shorthands::{
     assign, function, let_argument, let_call, let_major, let_number, none_where, none_without,
     of_two, place_params, where_number, window_args, window_params,
 };
-use ecd_cast::build::{binary, give, name, one, var};
-use ecd_cast::builder::Builder;
+use ecd_cbuild::build::{binary, give, name, one, var};
+use ecd_cbuild::builder::Builder;
 use ecd_cast::tree::{CItem, Expr, Function, Op, Stmt, StmtList};
 use ecd_list::OutOfMemory;
 use std::alloc::Global;

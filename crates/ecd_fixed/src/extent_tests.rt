@@ -2,7 +2,7 @@
 
 use crate::tests::{ask, machine, window};
 use crate::{extents, heads};
-use ecd_cast::builder::{Builder, Valid};
+use ecd_cbuild::builder::{Builder, Valid};
 use ecd_ceval::{Arg, Machine};
 use ecd_item::{ItemFault, OutOfMemory, read_item};
 use std::alloc::Global;

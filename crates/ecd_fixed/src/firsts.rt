@@ -4,7 +4,7 @@ ghost use Rattle.std.specs.Prelude.{◌≡◌, IfOk};
 ghost use Rattle.ecd_fixed.specs.Heads as trees;
 
 use crate::shorthands::{answer_where, function, let_number, number};
-use ecd_cast::build::{binary, give, one, var};
+use ecd_cbuild::build::{binary, give, one, var};
 use ecd_cast::tree::{Expr, Function, Op, Stmt, StmtList};
 use ecd_list::OutOfMemory;
 use std::alloc::Global;

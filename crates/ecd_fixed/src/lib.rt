@@ -25,7 +25,7 @@ use crate::loads::{load_be16, load_be32, load_be64};
 use crate::whole_heads::{head_argument, head_end, head_within};
 pub use compare::comparison;
 pub use copy::copier;
-use ecd_cast::builder::Builder;
+use ecd_cbuild::builder::Builder;
 use ecd_cast::tree::CItem;
 use ecd_list::OutOfMemory;
 pub use extent::extents;

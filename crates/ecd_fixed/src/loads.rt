@@ -6,7 +6,7 @@ ghost use Rattle.ecd_fixed.specs.Heads as trees;
 use crate::shorthands::{
     byte_here, function, later_args, let_call, place_args, place_params, plus,
 };
-use ecd_cast::build::{binary, load, one, var};
+use ecd_cbuild::build::{binary, load, one, var};
 use ecd_cast::tree::{Expr, Function, Op, Stmt, StmtList};
 use ecd_list::OutOfMemory;
 use std::alloc::Global;

@@ -9,7 +9,7 @@ ghost use Rattle.ecd_fixed.specs.Variables as v;
 ghost use Rattle.ecd_fixed.specs.Heads as trees;
 ghost use Rattle.ecd_fixed.specs.Extents as extents;
 
-use ecd_cast::build::{binary, declare_call, load, name, one, var, when};
+use ecd_cbuild::build::{binary, declare_call, load, name, one, var, when};
 use ecd_cast::tree::{
     Expr, ExprList, Function, Name, Op, Param, ParamKind, ParamList, Source, Stmt, StmtList,
 };

@@ -1,7 +1,7 @@
 //! The emitted functions, run over bytes, against the reader of heads.
 
 use crate::{comparison, copier, head_writer, heads, utf8_check};
-use ecd_cast::builder::{Builder, Valid};
+use ecd_cbuild::builder::{Builder, Valid};
 use ecd_ceval::{Arg, Block, BlockList, Machine};
 use ecd_head::read_head;
 use ecd_list::{ByteList, OutOfMemory};

@@ -10,8 +10,8 @@ ghost use Rattle.ecd_fixed.specs.Utf8 as trees;
 ghost use Rattle.ecd_fixed.specs.Standing.{AreNew, Utf8IsThere, Utf8Means};
 
 use crate::shorthands::{answer_where, function, guard, let_number, number, pointer, where_call};
-use ecd_cast::build::{binary, give, load, name, one, var};
-use ecd_cast::builder::Builder;
+use ecd_cbuild::build::{binary, give, load, name, one, var};
+use ecd_cbuild::builder::Builder;
 use ecd_cast::tree::{CItem, Expr, ExprList, Function, Op, ParamList, Source, Stmt, StmtList};
 use ecd_list::OutOfMemory;
 use std::alloc::Global;

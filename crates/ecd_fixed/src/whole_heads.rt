@@ -13,7 +13,7 @@ use crate::shorthands::{
     none_where, none_without, number, of_two, place_params, plus, where_call, where_number,
     window_args, window_params,
 };
-use ecd_cast::build::{load, name, one, var};
+use ecd_cbuild::build::{load, name, one, var};
 use ecd_cast::tree::{Expr, Function, Op, ParamList, Stmt, StmtList};
 use ecd_list::OutOfMemory;
 use std::alloc::Global;

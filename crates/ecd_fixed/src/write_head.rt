@@ -11,8 +11,8 @@ ghost use Rattle.ecd_fixed.specs.Standing.{AreNew, HeadWriterIsThere, HeadWriter
 use crate::shorthands::{
     answer_where, function, give_variable, let_call, let_number, number, output, plus, put,
 };
-use ecd_cast::build::{binary, give, one, var, when};
-use ecd_cast::builder::Builder;
+use ecd_cbuild::build::{binary, give, one, var, when};
+use ecd_cbuild::builder::Builder;
 use ecd_cast::tree::{CItem, Expr, ExprList, Function, Op, ParamList, Stmt, StmtList};
 use ecd_list::OutOfMemory;
 use std::alloc::Global;

@@ -12,9 +12,9 @@ use Rattle.ecd_item_laws.specs.Reading.{Reader, Taken, item_at, many, pairs, mad
 use Rattle.ecd_item_laws.proofs.Again.{item_again}
 use Rattle.ecd_item_laws.proofs.Takes.{item_takes}
 use Rattle.ecd_head.proofs.Heads.{IsBytes-drop}
-use Rattle.ecd_fixed.specs.Windows.{IsBytes, IsEnd}
-use Rattle.ecd_fixed.proofs.Framing.{valid_framed}
-use Rattle.ecd_fixed.proofs.Owing.{item_long}
+use Rattle.ecd_emit.specs.Windows.{IsBytes, IsEnd}
+use Rattle.ecd_fixed_heads.proofs.Framing.{valid_framed}
+use Rattle.ecd_fixed_heads.proofs.Owing.{item_long}
 use Rattle.ecd_rt.specs.Meanings.{WholeStands}
 
 -- the place behind what was read, or 0

@@ -3,19 +3,19 @@
 ghost use Rattle.std.specs.Prelude.{◌≡◌, ◌≤◌, ◌<◌, [], ◌∷◌, ◌++◌, suc, IfOk, OnOk, codes};
 ghost use Rattle.ecd_cast.specs.declared.tree.Op.TheVariants.{Eq};
 ghost use Rattle.ecd_cast.specs.declared.tree.Expr.TheVariants.{Number as ANumber, Var as AVar};
-ghost use Rattle.ecd_fixed.specs.Shorthands as spec;
-ghost use Rattle.ecd_fixed.specs.Variables as v;
-ghost use Rattle.ecd_fixed.specs.Standing.{AreNew};
+ghost use Rattle.ecd_emit.specs.Shorthands as spec;
+ghost use Rattle.ecd_emit.specs.Variables as v;
+ghost use Rattle.ecd_emit.specs.Among.{AreNew};
 ghost use Rattle.ecd_rt.specs.Trees as trees;
 ghost use Rattle.ecd_rt.specs.Trees.{any_functions, any_names};
 ghost use Rattle.ecd_rt.specs.Standing.{FrontIsThere, FrontMeans, LevelIsThere, AnyIsThere, AnyMeans};
 
 use crate::names::{any_name, items_name, pairs_name};
 use crate::runs::{items_end, pairs_end, text_end};
-use ecd_cast::build::{declare_call, give, name, one, var};
-use ecd_cast::builder::Builder;
+use ecd_cbuild::build::{declare_call, give, name, one, var};
+use ecd_cbuild::builder::Builder;
 use ecd_cast::tree::{CItem, Expr, ExprList, Function, Name, Op, Stmt, StmtList};
-use ecd_fixed::shorthands::{
+use ecd_emit::shorthands::{
     give_variable, let_argument, let_call, let_major, place_args, where_call, where_number,
     window_args, window_params,
 };

@@ -3,7 +3,7 @@
 ghost use Rattle.std.specs.Prelude.{◌≤◌};
 
 use crate::runtime;
-use ecd_cast::builder::{Builder, Valid};
+use ecd_cbuild::builder::{Builder, Valid};
 use ecd_ceval::{Arg, Block, BlockList, Machine};
 use ecd_item::{ItemFault, read_item};
 use ecd_list::OutOfMemory;

@@ -1,6 +1,6 @@
 -- Each push finds its function valid behind the ones before it.
 use Rattle.std.proofs.Common.{◌≡◌, [], ◌++◌}
-use Rattle.ecd_fixed.proofs.Placed.{begun, grown, valid_by, spelled_by}
+use Rattle.ecd_emit.proofs.Placed.{begun, grown, valid_by, spelled_by}
 use Rattle.ecd_rt.specs.Trees.{text_end, any_end}
 use Rattle.ecd_rt.proofs.Chaining.{one_leaf, valid_text, valid_leaf, text_spelled, leaf_spelled}
 use Rattle.ecd_rt.proofs.any.put_leaf.Goals as goal

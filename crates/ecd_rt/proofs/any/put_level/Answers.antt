@@ -1,6 +1,6 @@
 -- Each push finds its function valid behind the ones before it.
 use Rattle.std.proofs.Common.{◌≡◌, suc, [], ◌++◌, arith}
-use Rattle.ecd_fixed.proofs.Placed.{begun, grown, valid_by, spelled_by}
+use Rattle.ecd_emit.proofs.Placed.{begun, grown, valid_by, spelled_by}
 use Rattle.ecd_rt.specs.Trees.{items_end, pairs_end, any_end}
 use Rattle.ecd_rt.proofs.Chaining.{one_level, two_levels, valid_items, valid_pairs, valid_any, items_spelled, pairs_spelled, any_spelled}
 use Rattle.ecd_rt.proofs.any.put_level.Goals as goal
