@@ -206,5 +206,6 @@ pub fn utf8_check(alloc: Global, builder: &mut Builder) -> Result<(), OutOfMemor
     ensures there { OnOk result (Utf8IsThere builder.new) }
     ensures mean { OnOk result (Utf8Means builder.new) }
 {
-    builder.extend(utf8_items(alloc)?)
+    builder.extend(utf8_items(alloc)?)?;
+    Ok(())
 }

@@ -264,5 +264,6 @@ pub fn head_writer(alloc: Global, builder: &mut Builder) -> Result<(), OutOfMemo
     ensures there { OnOk result (HeadWriterIsThere builder.new) }
     ensures mean { OnOk result (HeadWriterMeans builder.new) }
 {
-    builder.extend(put_items(alloc)?)
+    builder.extend(put_items(alloc)?)?;
+    Ok(())
 }

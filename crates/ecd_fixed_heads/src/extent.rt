@@ -165,5 +165,6 @@ pub fn extents(alloc: Global, builder: &mut Builder) -> Result<(), OutOfMemory>
     ensures there { OnOk result (ExtentsAreThere builder.new) }
     ensures mean { OnOk result (ExtentsMean builder.new) }
 {
-    builder.extend(extent_items(alloc)?)
+    builder.extend(extent_items(alloc)?)?;
+    Ok(())
 }

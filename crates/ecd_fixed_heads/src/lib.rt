@@ -49,5 +49,6 @@ pub fn heads(alloc: Global, builder: &mut Builder) -> Result<(), OutOfMemory>
     ensures there { OnOk result (HeadsAreThere builder.new) }
     ensures mean { OnOk result (HeadsMean builder.new) }
 {
-    builder.extend(head_items(alloc)?)
+    builder.extend(head_items(alloc)?)?;
+    Ok(())
 }
