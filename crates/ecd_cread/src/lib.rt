@@ -16,6 +16,3 @@ pub use ecd_cast::fault::CFault;
 pub use ecd_cbuild::builder::Valid;
 pub use lex::MOST_BYTES;
 pub use valid::read_c;
-
-#[cfg(test)]
-mod tests;
