@@ -1,6 +1,7 @@
 -- What stands at the front of a text, as functions: the longest lexeme, or the fault there.
-use Rattle.std.specs.Prelude.{◌≡◌, ℕ, ◌+◌, Bool, true, false, not, nat_lt, ◌==◌, ◌&&◌, if◌then◌else◌, List, [], ◌∷◌, take, drop, slice_index, Option, Some, None, Result, Ok, Err}
+use Rattle.std.specs.Prelude.{◌≡◌, ℕ, ◌+◌, Bool, true, false, not, nat_lt, ◌==◌, ◌&&◌, if◌then◌else◌, List, [], ◌∷◌, take, drop, Option, Some, None, Result, Ok, Err}
 use Rattle.std.specs.List.{prefix_len}
+use Rattle.ecd_text.specs.Bytes.{byte_at}
 use Rattle.ecd_lex.specs.declared.character.Radix.{Radix}
 use Rattle.ecd_lex.specs.declared.character.Radix.TheVariants.{Decimal, Hexadecimal, Binary}
 use Rattle.ecd_lex.specs.declared.token.Bound.{Bound}
@@ -17,10 +18,6 @@ use Rattle.ecd_lex.specs.declared.front.Opening.{Opening}
 use Rattle.ecd_lex.specs.declared.front.Opening.TheVariants as opens
 use Rattle.ecd_lex.specs.Characters.{is_white, is_decimal, is_name_start, is_name_byte, is_link, is_x, is_b, is_h, is_digit, leads_exponent, is_plus_or_minus, digit_value, number_of}
 use Rattle.ecd_lex.specs.Forms.{int_of, bound_of, is_character, is_hex_character, with_front, decoded, hex_after, hex_decoded}
-
--- the byte at a place, or 0 behind the end
-abbrev pub byte_at : List ℕ → ℕ → ℕ
-byte_at text i = slice_index text i
 
 -- ---- names
 

@@ -6,10 +6,10 @@ use crate::found::{Flaw, Found};
 use crate::name::name_rest;
 use crate::number::{hash_found, number_found, star_found};
 use crate::sign::{dot_sign, sign_found};
-use crate::slices::{behind, byte_at, front};
 use crate::string::{body_len, decoded, hex_decoded, hex_len};
 use crate::token::{Bound, TokenKind};
 use ecd_list::{ByteList, OutOfMemory};
+use ecd_text::{behind, byte_at, front};
 use std::alloc::Global;
 
 /// What a first byte opens.

@@ -3,7 +3,7 @@ ghost use Rattle.ecd_lex.specs.Scan.{gap_len};
 ghost use Rattle.ecd_lex.specs.Characters.{is_white};
 
 use crate::character::is_blank;
-use crate::slices::byte_at;
+use ecd_text::byte_at;
 
 /// Whether a byte is white space, by the one behind it: a carriage return is where it stands before a line feed.
 #[tactic(auto, unfolding(crate::specs::Characters::is_white))]

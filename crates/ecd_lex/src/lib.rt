@@ -10,7 +10,6 @@ mod name;
 mod number;
 mod place;
 mod sign;
-mod slices;
 mod string;
 mod text;
 mod token;
@@ -19,6 +18,3 @@ pub use ecd_list::{ByteList, List, OutOfMemory};
 pub use place::{MOST_BYTES, line_column};
 pub use text::{LexFault, lex};
 pub use token::{Bound, Sign, Token, TokenKind, TokenList};
-
-#[cfg(test)]
-mod tests;

@@ -1,12 +1,12 @@
 ghost use Rattle.std.specs.Prelude.{◌≡◌, ◌+◌, ◌≤◌, ◌<◌, ◌^◌, length, drop, take, min};
-ghost use Rattle.ecd_lex.specs.Scan.{byte_at, digits_len, zero_numeral, numeral_at, numeral_len, numeral_value, fraction_len, sign_len, power_len, exponent_len, needs_exponent, tail_len, star_found, number_found, number_by, argument_found, hash_found};
+ghost use Rattle.ecd_lex.specs.Scan.{digits_len, zero_numeral, numeral_at, numeral_len, numeral_value, fraction_len, sign_len, power_len, exponent_len, needs_exponent, tail_len, star_found, number_found, number_by, argument_found, hash_found};
 ghost use Rattle.ecd_lex.specs.Characters.{number_of, number_after};
 ghost use Rattle.ecd_lex.specs.Forms.{int_of, bound_of};
 
 use crate::character::{Radix, digit_value, is_b, is_decimal, is_plus_or_minus, is_x};
 use crate::found::Found;
-use crate::slices::{behind, byte_at, front};
 use crate::token::{Bound, TokenKind};
+use ecd_text::{behind, byte_at, front};
 
 /// An unsigned integer at the front of a text, by its parts.
 #[derive(Clone, Copy, Debug, PartialEq, Eq)]

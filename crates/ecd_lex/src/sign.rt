@@ -2,8 +2,8 @@ ghost use Rattle.std.specs.Prelude.{◌≡◌};
 ghost use Rattle.ecd_lex.specs.Scan.{sign_found, define_sign, slash_sign, dot_sign, lone_sign, bracket_sign, as_sign};
 
 use crate::found::Found;
-use crate::slices::byte_at;
 use crate::token::{Sign, TokenKind};
+use ecd_text::byte_at;
 
 fn as_sign(sign: Sign, end: usize) -> Option<Found>
     ensures { result ≡ as_sign sign end }

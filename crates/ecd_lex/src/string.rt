@@ -1,11 +1,11 @@
 ghost use Rattle.std.specs.Prelude.{◌≡◌, ◌+◌, ◌*◌, ◌++◌, ◌∷◌, [], ◌<◌, length, drop, false, IsTrue, IfOk, IfErr, IfSome, IfNone, OnSome, OnOk};
 ghost use Rattle.ecd_lex.specs.Forms.{is_character, is_hex_character, escape_of, are_hexadecimal, is_unit, unit_of, decoded, with_front, hex_after, hex_decoded, is_hex_space};
-ghost use Rattle.ecd_lex.specs.Scan.{byte_at, body_len, hex_len, placed, Gives, Faults, hex_digit, DecodesPiece, HexPiece};
+ghost use Rattle.ecd_lex.specs.Scan.{body_len, hex_len, placed, Gives, Faults, hex_digit, DecodesPiece, HexPiece};
 
 use crate::character::{Radix, digit_value, is_blank};
 use crate::found::Flaw;
-use crate::slices::byte_at;
 use ecd_list::{ByteList, OutOfMemory};
+use ecd_text::byte_at;
 use std::alloc::Global;
 
 /// A character that may stand in a string.

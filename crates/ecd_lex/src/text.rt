@@ -7,9 +7,9 @@ use crate::found::Flaw;
 use crate::front::front_found;
 use crate::gap::gap_len;
 use crate::place::MOST_BYTES;
-use crate::slices::behind;
 use crate::token::{Token, TokenList};
 use ecd_list::OutOfMemory;
+use ecd_text::behind;
 use std::alloc::Global;
 use thiserror::Error;
 

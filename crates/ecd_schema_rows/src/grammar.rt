@@ -1,9 +1,10 @@
 //! Schemas whose tokens are single characters, and their trees as text: a place behind each letter.
 
-use super::*;
-use ecd_lex::{Bound, ByteList, MOST_BYTES, Sign, Token, TokenKind, lex};
+use ecd_lex::{Bound, ByteList, MOST_BYTES, Sign, Token, TokenKind, TokenList, lex};
+use ecd_parse::{ParseFault, parse};
 use ecd_syntax::{
-    Alts, Assign, Entry, Form, GroupTree, Key, Literal, Name, Occur, OpKind, Rule, Type1, Type2,
+    Alts, Assign, Entry, Form, GroupTree, Key, Literal, Name, Occur, OpKind, Rule, Tree, Type1,
+    Type2,
 };
 use std::alloc::{AllocError, Global};
 use std::test::Fail;

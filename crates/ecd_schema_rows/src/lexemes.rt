@@ -1,9 +1,6 @@
 ghost use Rattle.std.specs.Prelude.{◌≤◌, length};
 
-use crate::place::MOST_BYTES;
-use crate::text::{LexFault, lex};
-use crate::token::{Bound, Token, TokenKind};
-use crate::{laws, line_column};
+use ecd_lex::{Bound, LexFault, MOST_BYTES, Token, TokenKind, laws, lex, line_column};
 use std::alloc::{AllocError, Global};
 use std::test::Fail;
 
