@@ -6,10 +6,8 @@ mod edge;
 mod numbers;
 mod search;
 mod spread;
-#[cfg(test)]
-mod tests;
 
 pub use ecd_list::OutOfMemory;
-pub use edge::{Edge, are_among};
+pub use edge::{Edge, add_edge, are_among};
 pub use numbers::components;
 pub use spread::reached;

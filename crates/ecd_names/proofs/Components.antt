@@ -1,11 +1,11 @@
--- The strongly connected components of names, and where names lead back.
+-- The strongly connected components of names, and names that reach those that use them.
 use Rattle.std.proofs.Common.{ℕ, suc, ◌≡◌, ◌≢◌, ◌<◌, ◌↔◌, false, List, length, get_or, refl, ap, sym, ◌∙◌, subst, arith}
 use Rattle.std.specs.Prelude.{Option, Some, None}
 use Rattle.ecd_graph.specs.declared.edge.Edge.{Edge}
 use Rattle.ecd_graph.specs.Graphs.{IsEdge, Reaches, AreAmong, NumbersComponents, AreInOrder}
 use Rattle.ecd_syntax.specs.declared.tree.Rule.{Rule}
-use Rattle.ecd_rules.specs.Named.{all_rules, first_of, is_parameter}
-use Rattle.ecd_rules.specs.Leading.{Uses, LeadsTo, IsRanked}
+use Rattle.ecd_bodies.specs.Named.{all_rules, first_of, is_parameter}
+use Rattle.ecd_bodies.specs.Reaching.{Uses, ReachesName, IsRanked}
 use Rattle.ecd_names.specs.Breaks.{IsRecursive}
 use Rattle.ecd_names.specs.Edges.{edges_of, AreComponents}
 use Rattle.ecd_names.specs.Laws.{NoThirdIsRanked}
@@ -14,7 +14,7 @@ use Rattle.ecd_names.proofs.Cycles.{never-back}
 use Rattle.ecd_names.proofs.Ranking.{IsRanking, has-ranking}
 use Rattle.ecd_names.proofs.Walking.{some_same, element_at, at_element}
 use Rattle.ecd_names.proofs.Nodes.{node-named, node-below, node-of}
-use Rattle.ecd_names.proofs.Graphs.{AreNodes, use-edge, edge-use, leads-reaches, reaches-leads, node-leads}
+use Rattle.ecd_names.proofs.Graphs.{AreNodes, use-edge, edge-use, name-reached, node-reached, start-node}
 
 module _ (text : List Rule) where
   one-node : (a b : List ℕ) (n : ℕ) → first_of text a ≡ Some n → first_of text b ≡ Some n → a ≡ b
@@ -45,10 +45,10 @@ module _ (text : List Rule) where
       (node-below (all_rules text) u.rule.name.text x.from u.starts, node-below (all_rules text) u.name.text x.to u.ends)
 
   -- where no use leads back, no node reaches one with an edge to it
-  never-round : ((a b : List ℕ) → Uses text a b → LeadsTo text b a → ⊥) → (x y : ℕ) → IsEdge (edges_of text) x y → Reaches (edges_of text) y x → ⊥
+  never-round : ((a b : List ℕ) → Uses text a b → ReachesName text b a → ⊥) → (x y : ℕ) → IsEdge (edges_of text) x y → Reaches (edges_of text) y x → ⊥
   never-round never x y edge back =
       let u = node-used x y edge in
-      never u.0 u.1 u.2 (leads-reaches text (edges_of text) (first_of text) are-nodes y x u.1 u.0 u.4 u.3 back)
+      never u.0 u.1 u.2 (name-reached text (edges_of text) (first_of text) are-nodes y x u.1 u.0 u.4 u.3 back)
 
   -- a ranking of nodes is one of names; what has no node comes first
   module _ (rank : ℕ → ℕ) (ranking : IsRanking (edges_of text) rank) where
@@ -68,7 +68,7 @@ module _ (text : List Rule) where
     names-ranked : IsRanked text
     names-ranked = record { rank = λ name. rank_of (first_of text name); falls = names-fall }
 
-  pub graph-ranked : ((a b : List ℕ) → Uses text a b → LeadsTo text b a → ⊥) → IsRanked text
+  pub graph-ranked : ((a b : List ℕ) → Uses text a b → ReachesName text b a → ⊥) → IsRanked text
   graph-ranked never = let r = has-ranking (edges_of text) (never-round never) in names-ranked r.rank r.is
 
 pub third-ranked : NoThirdIsRanked
@@ -79,18 +79,18 @@ module _ (text : List Rule) (numbers : List ℕ) (are : AreComponents text numbe
   use-reaches a b x y u e f = record { steps = 1; walk = (y, node-edged text a b x y u e f, refl) }
 
   -- a use leads back where both names are in one component
-  pub component-back : (a b : List ℕ) (x y : ℕ) → Uses text a b → first_of text a ≡ Some x → first_of text b ≡ Some y → (get_or numbers x 0 ≡ get_or numbers y 0) ↔ LeadsTo text b a
+  pub component-back : (a b : List ℕ) (x y : ℕ) → Uses text a b → first_of text a ≡ Some x → first_of text b ≡ Some y → (get_or numbers x 0 ≡ get_or numbers y 0) ↔ ReachesName text b a
   component-back a b x y u e f =
       let both = are.components x y (node-below (all_rules text) a x e) (node-below (all_rules text) b y f) in (
-        λ same. leads-reaches text (edges_of text) (first_of text) (are-nodes text) y x b a f e (both.0 same).1,
-        λ back. both.1 (use-reaches a b x y u e f, reaches-leads text (edges_of text) (first_of text) (are-nodes text) y x b a f e back),
+        λ same. name-reached text (edges_of text) (first_of text) (are-nodes text) y x b a f e (both.0 same).1,
+        λ back. both.1 (use-reaches a b x y u e f, node-reached text (edges_of text) (first_of text) (are-nodes text) y x b a f e back),
       )
 
-  -- what has no rule leads nowhere
-  pub none-back : (a b : List ℕ) → Uses text a b → first_of text b ≡ None → LeadsTo text b a → ⊥
+  -- what has no rule reaches nothing
+  pub none-back : (a b : List ℕ) → Uses text a b → first_of text b ≡ None → ReachesName text b a → ⊥
   none-back a b u e back =
       let x = node-starts text a b u in
-      let y = node-leads text (edges_of text) (first_of text) (are-nodes text) b a x.0 x.1 back in
+      let y = start-node text (edges_of text) (first_of text) (are-nodes text) b a x.0 x.1 back in
       let bad : None ≡ Some y.0 = sym e ∙ y.1 in absurd cc
 
   -- a rule's use leads back where its name and the rule's are in one component
@@ -100,7 +100,7 @@ module _ (text : List Rule) (numbers : List ℕ) (are : AreComponents text numbe
       to : AreInOneComponent text numbers first name → IsRecursive text rule name
       to h = record { free = free; back = (component-back rule.name.text name h.first h.second u (ap (first_of text) (sym same) ∙ h.first_is) h.second_is).0 h.same }
 
-      by_node : (o : Option ℕ) → first_of text name ≡ o → LeadsTo text name rule.name.text → AreInOneComponent text numbers first name
+      by_node : (o : Option ℕ) → first_of text name ≡ o → ReachesName text name rule.name.text → AreInOneComponent text numbers first name
       by_node None e back = absurd (none-back rule.name.text name u e back)
       by_node (Some y) e back =
           let x = node-starts text rule.name.text name u in
@@ -111,7 +111,7 @@ module _ (text : List Rule) (numbers : List ℕ) (are : AreComponents text numbe
   rank (Some n) = suc (get_or numbers n 0)
 
   -- where no use leads back, the numbers of the components are a ranking
-  pub components-rank : ((a b : List ℕ) → Uses text a b → LeadsTo text b a → ⊥) → IsRanked text
+  pub components-rank : ((a b : List ℕ) → Uses text a b → ReachesName text b a → ⊥) → IsRanked text
   components-rank never = record { rank = λ name. rank (first_of text name); falls = falls }
     where
       by_node : (a b : List ℕ) (x : ℕ) (o : Option ℕ) → Uses text a b → first_of text a ≡ Some x → first_of text b ≡ o → rank o < suc (get_or numbers x 0)

@@ -6,7 +6,7 @@ use Rattle.std.proofs.lemmas.List.Folds.{list_any-append}
 use Rattle.ecd_prelude.specs.Prelude.{prelude_rules, float_names}
 use Rattle.ecd_syntax.specs.declared.tree.Assign.TheVariants.{Define}
 use Rattle.ecd_syntax.specs.declared.tree.Rule.{Rule}
-use Rattle.ecd_rules.specs.Named.{is_named, first_of}
+use Rattle.ecd_bodies.specs.Named.{is_named, first_of}
 use Rattle.ecd_names.specs.Breaks.{IsDuplicate, OfPrelude, Again}
 use Rattle.ecd_names.specs.Parameters.{comes_before}
 use Rattle.ecd_names.proofs.Positions.{position-from, from-before}

@@ -1,4 +1,4 @@
--- Names that lead to each other, and nodes that reach each other.
+-- Names that reach each other, and nodes that reach each other.
 use Rattle.std.proofs.Common.{ℕ, zero, suc, ◌≡◌, Bool, true, false, List, [], ◌∷◌, refl, ap, sym, ◌∙◌, subst}
 use Rattle.std.specs.Prelude.{Option, Some, None, flat_map}
 use Rattle.std.specs.List.{Contains}
@@ -10,9 +10,9 @@ use Rattle.ecd_uses.specs.declared.site.Asked.{Asked}
 use Rattle.ecd_uses.specs.declared.site.Site.{Site}
 use Rattle.ecd_uses.specs.declared.site.Site.TheVariants.{Use, Parenthesis}
 use Rattle.ecd_uses.specs.Sites.{sites_of}
-use Rattle.ecd_rules.specs.Named.{is_parameter}
-use Rattle.ecd_rules.specs.Leading.{IsUse, Uses, LeadsWithin, LeadsTo}
-use Rattle.ecd_rules.specs.Edges.{edge_between}
+use Rattle.ecd_bodies.specs.Named.{is_parameter}
+use Rattle.ecd_bodies.specs.Reaching.{IsUse, Uses, ReachesWithin, ReachesName}
+use Rattle.ecd_graph.specs.Edges.{edge_between}
 use Rattle.ecd_names.specs.Edges.{site_edges, rule_edges}
 use Rattle.ecd_names.proofs.Walking.{some_same, none_in, only_in, in_only, flat_in, in_flat}
 use Rattle.ecd_names.proofs.Linking.{free-edges, parameter-edges}
@@ -61,7 +61,7 @@ module _ (node : List ℕ → Option ℕ) (rules : List Rule) where
       (flat_in (site_edges node rule) (sites_of rule) (Use name args asked) (record { from = from; to = to }) u.among
       (subst (λ (l : List Edge). Contains l (record { from = from; to = to })) (sym here) (in_only (record { from = from; to = to }))))
 
--- ---- walks are the leading of names
+-- ---- walks are the reaching of names
 
 -- what is known of the nodes
 pub record AreNodes (text : List Rule) (edges : List Edge) (node : List ℕ → Option ℕ) : Type 0 where
@@ -71,28 +71,28 @@ pub record AreNodes (text : List Rule) (edges : List Edge) (node : List ℕ → 
   pub used : (x y : ℕ) → IsEdge edges x y → (a : List ℕ) × (b : List ℕ) × Uses text a b × (node a ≡ Some x) × (node b ≡ Some y)
 
 module _ (text : List Rule) (edges : List Edge) (node : List ℕ → Option ℕ) (are : AreNodes text edges node) where
-  leads-walk : (steps x y : ℕ) (a b : List ℕ) → Walks edges steps x y → node a ≡ Some x → node b ≡ Some y → LeadsWithin text steps a b
-  leads-walk zero x y a b same e f = are.one a b x e (f ∙ ap Some (sym same))
-  leads-walk (suc steps) x y a b walk e f =
+  walk-of : (steps x y : ℕ) (a b : List ℕ) → Walks edges steps x y → node a ≡ Some x → node b ≡ Some y → ReachesWithin text steps a b
+  walk-of zero x y a b same e f = are.one a b x e (f ∙ ap Some (sym same))
+  walk-of (suc steps) x y a b walk e f =
       let u = are.used x walk.0 walk.1 in
-      (u.1, subst (λ (n : List ℕ). Uses text n u.1) (are.one u.0 a x u.3 e) u.2, leads-walk steps walk.0 y u.1 b walk.2 u.4 f)
+      (u.1, subst (λ (n : List ℕ). Uses text n u.1) (are.one u.0 a x u.3 e) u.2, walk-of steps walk.0 y u.1 b walk.2 u.4 f)
 
-  start-of : (steps : ℕ) (a b : List ℕ) (y : ℕ) → LeadsWithin text steps a b → node b ≡ Some y → (x : ℕ) × (node a ≡ Some x)
+  start-of : (steps : ℕ) (a b : List ℕ) (y : ℕ) → ReachesWithin text steps a b → node b ≡ Some y → (x : ℕ) × (node a ≡ Some x)
   start-of zero a b y same f = (y, ap node same ∙ f)
   start-of (suc steps) a b y walk f = are.starts a walk.0 walk.1
 
-  walk-leads : (steps : ℕ) (a b : List ℕ) (x y : ℕ) → LeadsWithin text steps a b → node a ≡ Some x → node b ≡ Some y → Walks edges steps x y
-  walk-leads zero a b x y same e f = some_same (sym e ∙ (ap node same ∙ f))
-  walk-leads (suc steps) a b x y walk e f =
+  steps-walk : (steps : ℕ) (a b : List ℕ) (x y : ℕ) → ReachesWithin text steps a b → node a ≡ Some x → node b ≡ Some y → Walks edges steps x y
+  steps-walk zero a b x y same e f = some_same (sym e ∙ (ap node same ∙ f))
+  steps-walk (suc steps) a b x y walk e f =
       let c = start-of steps walk.0 b y walk.2 f in
-      (c.0, are.edged a walk.0 x c.0 walk.1 e c.1, walk-leads steps walk.0 b c.0 y walk.2 c.1 f)
+      (c.0, are.edged a walk.0 x c.0 walk.1 e c.1, steps-walk steps walk.0 b c.0 y walk.2 c.1 f)
 
-  pub leads-reaches : (x y : ℕ) (a b : List ℕ) → node a ≡ Some x → node b ≡ Some y → Reaches edges x y → LeadsTo text a b
-  leads-reaches x y a b e f r = record { steps = r.steps; walk = leads-walk r.steps x y a b r.walk e f }
+  pub name-reached : (x y : ℕ) (a b : List ℕ) → node a ≡ Some x → node b ≡ Some y → Reaches edges x y → ReachesName text a b
+  name-reached x y a b e f r = record { steps = r.steps; walk = walk-of r.steps x y a b r.walk e f }
 
-  pub reaches-leads : (x y : ℕ) (a b : List ℕ) → node a ≡ Some x → node b ≡ Some y → LeadsTo text a b → Reaches edges x y
-  reaches-leads x y a b e f l = record { steps = l.steps; walk = walk-leads l.steps a b x y l.walk e f }
+  pub node-reached : (x y : ℕ) (a b : List ℕ) → node a ≡ Some x → node b ≡ Some y → ReachesName text a b → Reaches edges x y
+  node-reached x y a b e f l = record { steps = l.steps; walk = steps-walk l.steps a b x y l.walk e f }
 
-  -- a name that leads to one with a node has one
-  pub node-leads : (a b : List ℕ) (y : ℕ) → node b ≡ Some y → LeadsTo text a b → (x : ℕ) × (node a ≡ Some x)
-  node-leads a b y f l = start-of l.steps a b y l.walk f
+  -- a name that reaches one with a node has one
+  pub start-node : (a b : List ℕ) (y : ℕ) → node b ≡ Some y → ReachesName text a b → (x : ℕ) × (node a ≡ Some x)
+  start-node a b y f l = start-of l.steps a b y l.walk f

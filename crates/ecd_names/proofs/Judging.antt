@@ -13,17 +13,17 @@ use Rattle.ecd_uses.specs.declared.site.Asked.{Asked}
 use Rattle.ecd_uses.specs.declared.site.Site.{Site}
 use Rattle.ecd_uses.specs.declared.site.Site.TheVariants.{Use}
 use Rattle.ecd_uses.specs.Sites.{sites_of}
-use Rattle.ecd_rules.specs.Named.{arity_of, is_parameter}
-use Rattle.ecd_rules.specs.Kinds.{IsGroup}
-use Rattle.ecd_rules.specs.Sockets.{is_group_socket}
-use Rattle.ecd_rules.specs.Leading.{Uses}
-use Rattle.ecd_names.specs.declared.first.Broken.{Broken}
+use Rattle.ecd_bodies.specs.Named.{arity_of, is_parameter}
+use Rattle.ecd_bodies.specs.Kinds.{IsGroup}
+use Rattle.ecd_prelude.specs.Sockets.{is_group_socket}
+use Rattle.ecd_bodies.specs.Reaching.{Uses}
+use Rattle.ecd_first.specs.declared.first.Broken.{Broken}
 use Rattle.ecd_names.specs.Breaks.{IsDuplicate, IsUndefined, IsRecursive, arity_in, IsOtherKind, IsOtherAssign, UseBreaks, NameBreaks, RuleBreaks, SiteBreaks}
 use Rattle.ecd_names.specs.Breaks.{Undefined, Recursive, OtherArity, OtherKind, Duplicate, OtherParameters, OtherAssign, AtName, AtParameter, AtSite, TypeForGroupName, GroupForTypeSocket, GroupAsTypeSocket, TypeForGroupSocket}
-use Rattle.ecd_names.specs.First.{Faults, Sees, When, EachOf}
+use Rattle.ecd_first.specs.Firsts.{Faults, offset, Sees, When, EachOf}
 use Rattle.ecd_names.specs.Parameters.{RepeatsOne}
 use Rattle.ecd_names.specs.Scenes.{NameFaults}
-use Rattle.ecd_names.proofs.Seeing.{Either, sees_then, sees_same}
+use Rattle.ecd_first.proofs.Seeing.{Either, sees_then, sees_same}
 use Rattle.ecd_names.proofs.Walking.{element_at, take-all}
 
 differs : (a b : ℕ) → not (nat_eq a b) ≡ true → a ≢ b
@@ -34,28 +34,28 @@ differing a b n = grind (arith, nat_tests)
 
 -- ---- a use
 
-module _ (text : List Rule) (rule : Rule) (name : Name) (args : ℕ) (asked : Asked) (a b c d e : Option Broken) (undefined recursive kind : Bool) (arity : ℕ) where
+module _ (text : List Rule) (rule : Rule) (name : Name) (args : ℕ) (asked : Asked) (a b c d e : Option (Broken ℕ)) (undefined recursive kind : Bool) (arity : ℕ) where
   pub sees_use : ((undefined ≡ true → IsUndefined text rule name.text) × (IsUndefined text rule name.text → undefined ≡ true)) →
       ((recursive ≡ true → IsRecursive text rule name.text) × (IsRecursive text rule name.text → recursive ≡ true)) →
       arity ≡ arity_in text rule name.text →
       ((kind ≡ true → IsOtherKind text rule name.text asked) × (IsOtherKind text rule name.text asked → kind ≡ true)) →
-      Sees a b (When undefined name.at 2) → Sees b c (When recursive name.at 3) → Sees c d (When (not (nat_eq args arity)) name.at 4) → Sees d e (When kind name.at 5) →
-      Sees a e (SiteBreaks text rule (Use name args asked))
+      Sees offset a b (When undefined name.at 2) → Sees offset b c (When recursive name.at 3) → Sees offset c d (When (not (nat_eq args arity)) name.at 4) → Sees offset d e (When kind name.at 5) →
+      Sees offset a e (SiteBreaks text rule (Use name args asked))
   sees_use u r n k s t v w =
-      sees_same a e _ (SiteBreaks text rule (Use name args asked)) to from
-      (sees_then a d e _ (When kind name.at 5) (sees_then a c d _ (When (not (nat_eq args arity)) name.at 4) (sees_then a b c (When undefined name.at 2) (When recursive name.at 3) s t) v) w)
+      sees_same offset a e _ (SiteBreaks text rule (Use name args asked)) to from
+      (sees_then offset a d e _ (When kind name.at 5) (sees_then offset a c d _ (When (not (nat_eq args arity)) name.at 4) (sees_then offset a b c (When undefined name.at 2) (When recursive name.at 3) s t) v) w)
     where
       to : (place number : ℕ) → Either (Either (Either (When undefined name.at 2) (When recursive name.at 3)) (When (not (nat_eq args arity)) name.at 4)) (When kind name.at 5) place number → SiteBreaks text rule (Use name args asked) place number
-      to place number (inl (inl (inl x))) = (x.place_is, Undefined x.number_is (u.0 x.so))
-      to place number (inl (inl (inr x))) = (x.place_is, Recursive x.number_is (r.0 x.so))
-      to place number (inl (inr x)) = (x.place_is, OtherArity x.number_is (λ same. differs args arity x.so (same ∙ sym n)))
-      to place number (inr x) = (x.place_is, OtherKind x.number_is (k.0 x.so))
+      to place number (inl (inl (inl x))) = (x.place_is, Undefined x.rule_is (u.0 x.so))
+      to place number (inl (inl (inr x))) = (x.place_is, Recursive x.rule_is (r.0 x.so))
+      to place number (inl (inr x)) = (x.place_is, OtherArity x.rule_is (λ same. differs args arity x.so (same ∙ sym n)))
+      to place number (inr x) = (x.place_is, OtherKind x.rule_is (k.0 x.so))
 
       breaks : (place number : ℕ) → place ≡ name.at → UseBreaks text rule name.text args asked number → Either (Either (Either (When undefined name.at 2) (When recursive name.at 3)) (When (not (nat_eq args arity)) name.at 4)) (When kind name.at 5) place number
-      breaks place number p (Undefined e x) = inl (inl (inl (record { so = u.1 x; place_is = p; number_is = e })))
-      breaks place number p (Recursive e x) = inl (inl (inr (record { so = r.1 x; place_is = p; number_is = e })))
-      breaks place number p (OtherArity e x) = inl (inr (record { so = differing args arity (λ same. x (same ∙ n)); place_is = p; number_is = e }))
-      breaks place number p (OtherKind e x) = inr (record { so = k.1 x; place_is = p; number_is = e })
+      breaks place number p (Undefined e x) = inl (inl (inl (record { so = u.1 x; place_is = p; rule_is = e })))
+      breaks place number p (Recursive e x) = inl (inl (inr (record { so = r.1 x; place_is = p; rule_is = e })))
+      breaks place number p (OtherArity e x) = inl (inr (record { so = differing args arity (λ same. x (same ∙ n)); place_is = p; rule_is = e }))
+      breaks place number p (OtherKind e x) = inr (record { so = k.1 x; place_is = p; rule_is = e })
 
       from : (place number : ℕ) → SiteBreaks text rule (Use name args asked) place number → Either (Either (Either (When undefined name.at 2) (When recursive name.at 3)) (When (not (nat_eq args arity)) name.at 4)) (When kind name.at 5) place number
       from place number x = breaks place number x.0 x.1
@@ -74,28 +74,28 @@ uses_it text index rule site name args asked stands among e free = record {
 }
 
 -- all sites
-pub sees_all : (faults : Site → Faults) (old new : Option Broken) (xs ys : List Site) (n : ℕ) → length xs ≤ n → xs ≡ ys → Sees old new (EachOf faults (take n xs)) → Sees old new (EachOf faults ys)
-sees_all faults old new xs ys n h e s = subst (λ (l : List Site). Sees old new (EachOf faults l)) (take-all xs n h ∙ e) s
+pub sees_all : (faults : Site → Faults ℕ) (old new : Option (Broken ℕ)) (xs ys : List Site) (n : ℕ) → length xs ≤ n → xs ≡ ys → Sees offset old new (EachOf faults (take n xs)) → Sees offset old new (EachOf faults ys)
+sees_all faults old new xs ys n h e s = subst (λ (l : List Site). Sees offset old new (EachOf faults l)) (take-all xs n h ∙ e) s
 
 -- ---- the name of a rule
 
-module _ (text before : List Rule) (rule : Rule) (a b c d : Option Broken) (duplicate other : Bool) (params arity : ℕ) where
+module _ (text before : List Rule) (rule : Rule) (a b c d : Option (Broken ℕ)) (duplicate other : Bool) (params arity : ℕ) where
   pub sees_name : ((duplicate ≡ true → IsDuplicate before rule) × (IsDuplicate before rule → duplicate ≡ true)) → params ≡ length rule.params → arity ≡ arity_of text rule.name.text →
       ((other ≡ true → IsOtherAssign text rule) × (IsOtherAssign text rule → other ≡ true)) →
-      Sees a b (When duplicate rule.name.at 1) → Sees b c (When (not (nat_eq params arity)) rule.name.at 4) → Sees c d (When other rule.name.at 5) → Sees a d (NameFaults text before rule)
+      Sees offset a b (When duplicate rule.name.at 1) → Sees offset b c (When (not (nat_eq params arity)) rule.name.at 4) → Sees offset c d (When other rule.name.at 5) → Sees offset a d (NameFaults text before rule)
   sees_name u m n o s t v =
-      sees_same a d _ (NameFaults text before rule) to (λ place number x. from place number x.place_is x.broken)
-      (sees_then a c d _ (When other rule.name.at 5) (sees_then a b c (When duplicate rule.name.at 1) (When (not (nat_eq params arity)) rule.name.at 4) s t) v)
+      sees_same offset a d _ (NameFaults text before rule) to (λ place number x. from place number x.place_is x.broken)
+      (sees_then offset a c d _ (When other rule.name.at 5) (sees_then offset a b c (When duplicate rule.name.at 1) (When (not (nat_eq params arity)) rule.name.at 4) s t) v)
     where
       to : (place number : ℕ) → Either (Either (When duplicate rule.name.at 1) (When (not (nat_eq params arity)) rule.name.at 4)) (When other rule.name.at 5) place number → NameFaults text before rule place number
-      to place number (inl (inl x)) = record { place_is = x.place_is; broken = Duplicate x.number_is (u.0 x.so) }
-      to place number (inl (inr x)) = record { place_is = x.place_is; broken = OtherParameters x.number_is (λ same. differs params arity x.so (m ∙ (same ∙ sym n))) }
-      to place number (inr x) = record { place_is = x.place_is; broken = OtherAssign x.number_is (o.0 x.so) }
+      to place number (inl (inl x)) = record { place_is = x.place_is; broken = Duplicate x.rule_is (u.0 x.so) }
+      to place number (inl (inr x)) = record { place_is = x.place_is; broken = OtherParameters x.rule_is (λ same. differs params arity x.so (m ∙ (same ∙ sym n))) }
+      to place number (inr x) = record { place_is = x.place_is; broken = OtherAssign x.rule_is (o.0 x.so) }
 
       from : (place number : ℕ) → place ≡ rule.name.at → NameBreaks text before rule number → Either (Either (When duplicate rule.name.at 1) (When (not (nat_eq params arity)) rule.name.at 4)) (When other rule.name.at 5) place number
-      from place number p (Duplicate e x) = inl (inl (record { so = u.1 x; place_is = p; number_is = e }))
-      from place number p (OtherParameters e x) = inl (inr (record { so = differing params arity (λ same. x (sym m ∙ (same ∙ n))); place_is = p; number_is = e }))
-      from place number p (OtherAssign e x) = inr (record { so = o.1 x; place_is = p; number_is = e })
+      from place number p (Duplicate e x) = inl (inl (record { so = u.1 x; place_is = p; rule_is = e }))
+      from place number p (OtherParameters e x) = inl (inr (record { so = differing params arity (λ same. x (sym m ∙ (same ∙ n))); place_is = p; rule_is = e }))
+      from place number p (OtherAssign e x) = inr (record { so = o.1 x; place_is = p; rule_is = e })
 
 -- `/=` on a group
 module _ (text : List Rule) (rule : Rule) (assign : rule.assign ≡ TypeMore) where
@@ -113,9 +113,9 @@ module _ (text : List Rule) (rule : Rule) (assign : rule.assign ≡ TypeMore) wh
 
 -- ---- the whole rule
 
-module _ (text before : List Rule) (rule : Rule) (a b c d : Option Broken) where
-  pub sees_rule : Sees a b (NameFaults text before rule) → Sees b c (RepeatsOne rule.params) → Sees c d (EachOf (SiteBreaks text rule) (sites_of rule)) → Sees a d (RuleBreaks text before rule)
-  sees_rule s t v = sees_same a d _ (RuleBreaks text before rule) to from (sees_then a c d _ (EachOf (SiteBreaks text rule) (sites_of rule)) (sees_then a b c (NameFaults text before rule) (RepeatsOne rule.params) s t) v)
+module _ (text before : List Rule) (rule : Rule) (a b c d : Option (Broken ℕ)) where
+  pub sees_rule : Sees offset a b (NameFaults text before rule) → Sees offset b c (RepeatsOne rule.params) → Sees offset c d (EachOf (SiteBreaks text rule) (sites_of rule)) → Sees offset a d (RuleBreaks text before rule)
+  sees_rule s t v = sees_same offset a d _ (RuleBreaks text before rule) to from (sees_then offset a c d _ (EachOf (SiteBreaks text rule) (sites_of rule)) (sees_then offset a b c (NameFaults text before rule) (RepeatsOne rule.params) s t) v)
     where
       to : (place number : ℕ) → Either (Either (NameFaults text before rule) (RepeatsOne rule.params)) (EachOf (SiteBreaks text rule) (sites_of rule)) place number → RuleBreaks text before rule place number
       to place number (inl (inl x)) = AtName x.place_is x.broken

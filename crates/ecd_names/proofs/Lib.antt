@@ -1,4 +1,3 @@
-mod Seeing
 mod Positions
 mod Naming
 mod Repeats

@@ -7,8 +7,8 @@ use Rattle.ecd_syntax.specs.declared.tree.Rule.{Rule}
 use Rattle.ecd_uses.specs.declared.site.Asked.{Asked}
 use Rattle.ecd_uses.specs.declared.site.Site.{Site}
 use Rattle.ecd_uses.specs.declared.site.Site.TheVariants.{Use}
-use Rattle.ecd_rules.specs.Named.{is_parameter}
-use Rattle.ecd_rules.specs.Edges.{edge_between}
+use Rattle.ecd_bodies.specs.Named.{is_parameter}
+use Rattle.ecd_graph.specs.Edges.{edge_between}
 use Rattle.ecd_names.specs.Edges.{site_edges}
 
 module _ (node : List ℕ → Option ℕ) (rule : Rule) (name : Name) (args : ℕ) (asked : Asked) where

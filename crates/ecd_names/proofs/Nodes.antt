@@ -6,7 +6,7 @@ use Rattle.std.proofs.lemmas.List.Folds.{list_any_at}
 use Rattle.std.proofs.lemmas.List.Quantifiers.{position-Some}
 use Rattle.std.proofs.lemmas.Option.{slice_get-get_or}
 use Rattle.ecd_syntax.specs.declared.tree.Rule.{Rule}
-use Rattle.ecd_rules.specs.Named.{is_named}
+use Rattle.ecd_bodies.specs.Named.{is_named}
 use Rattle.ecd_names.proofs.Naming.{same-name, same-bytes}
 use Rattle.ecd_names.proofs.Positions.{position-from, from-some}
 

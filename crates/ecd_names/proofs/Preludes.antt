@@ -27,7 +27,7 @@ use Rattle.ecd_uses.specs.declared.site.Site.TheVariants.{Use, Parenthesis}
 use Rattle.ecd_uses.specs.Sites.{sites_of, type_asked, is_keyed, are_several, entry_sites, key_sites, type_sites, choice_sites, form_sites}
 use Rattle.ecd_uses.specs.Listed.{operated_sites, choices_listed, entries_listed, way_listed}
 use Rattle.ecd_uses.proofs.Layers.{entry-sites, key-sites, type-sites, choice-sites, named-sites, array-sites, tag-sites, hash-sites, group-sites}
-use Rattle.ecd_rules.specs.Named.{is_named}
+use Rattle.ecd_bodies.specs.Named.{is_named}
 
 -- ---- the sites of each form
 

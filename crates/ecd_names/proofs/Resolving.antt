@@ -6,32 +6,32 @@ use Rattle.std.proofs.lemmas.List.Folds.{Any-from_list_any}
 use Rattle.std.proofs.lemmas.Option.{slice_get_within, slice_get-get_or}
 use Rattle.ecd_syntax.specs.declared.tree.Rule.{Rule}
 use Rattle.ecd_uses.specs.declared.site.Site.TheVariants.{Use, Parenthesis}
-use Rattle.ecd_rules.specs.Named.{all_rules, first_arity, is_float, is_named}
-use Rattle.ecd_rules.specs.Leading.{LeadsWithin, IsRanked}
-use Rattle.ecd_names.specs.declared.first.Broken.{Broken}
+use Rattle.ecd_bodies.specs.Named.{all_rules, first_arity, is_float, is_named}
+use Rattle.ecd_bodies.specs.Reaching.{ReachesWithin, IsRanked}
+use Rattle.ecd_first.specs.declared.first.Broken.{Broken}
 use Rattle.ecd_names.specs.declared.scope.Scope.{Scope}
 use Rattle.ecd_names.specs.declared.fault.NameFault.TheVariants.{At}
 use Rattle.ecd_names.specs.Breaks.{IsOfPrelude, OfPrelude, Breaks, BreaksNone, IsFirst, RuleBreaks, UseBreaks, NameBreaks, AtName, AtParameter, AtSite, Undefined, Recursive, OtherArity, OtherKind, Duplicate, OtherParameters, OtherAssign}
-use Rattle.ecd_names.specs.First.{Sees, AnyBelow}
+use Rattle.ecd_first.specs.Firsts.{offset, Sees, AnyBelow}
 use Rattle.ecd_names.specs.Laws.{HasOneFirst, NoneIsFirst, RankedBreaksNoThird, PreludeIsKept}
 use Rattle.ecd_names.specs.Names.{BreaksAt, HasFewParameters}
 use Rattle.ecd_names.specs.Scopes.{IsScope, AreScopes}
-use Rattle.ecd_names.proofs.Seeing.{sees_same, first_is, none_is}
+use Rattle.ecd_first.proofs.Seeing.{sees_same, first_is, none_is}
 use Rattle.ecd_names.proofs.Naming.{same-name}
 use Rattle.ecd_names.proofs.Judging.{uses_it}
 use Rattle.ecd_names.proofs.Walking.{some_same}
 
 -- ---- rule by rule
 
-module _ (text : List Rule) (a b : Option Broken) where
-  pub sees_at : (index : ℕ) (rule : Rule) → slice_get text index ≡ Some rule → Sees a b (RuleBreaks text (take index text) rule) → Sees a b (BreaksAt text index)
-  sees_at index rule stands s = sees_same a b (RuleBreaks text (take index text) rule) (BreaksAt text index) (λ place number h. record { rule = rule; stands = stands; broken = h }) from s
+module _ (text : List Rule) (a b : Option (Broken ℕ)) where
+  pub sees_at : (index : ℕ) (rule : Rule) → slice_get text index ≡ Some rule → Sees offset a b (RuleBreaks text (take index text) rule) → Sees offset a b (BreaksAt text index)
+  sees_at index rule stands s = sees_same offset a b (RuleBreaks text (take index text) rule) (BreaksAt text index) (λ place number h. record { rule = rule; stands = stands; broken = h }) from s
     where
       from : (place number : ℕ) → BreaksAt text index place number → RuleBreaks text (take index text) rule place number
       from place number h = subst (λ (r : Rule). RuleBreaks text (take index text) r place number) (some_same (sym h.stands ∙ stands)) h.broken
 
-  pub sees_text : (end : ℕ) → length text ≤ end → Sees a b (AnyBelow (BreaksAt text) end) → Sees a b (Breaks text)
-  sees_text end all s = sees_same a b (AnyBelow (BreaksAt text) end) (Breaks text)
+  pub sees_text : (end : ℕ) → length text ≤ end → Sees offset a b (AnyBelow (BreaksAt text) end) → Sees offset a b (Breaks text)
+  sees_text end all s = sees_same offset a b (AnyBelow (BreaksAt text) end) (Breaks text)
       (λ place number h. record { index = h.index; rule = h.broken.rule; stands = h.broken.stands; broken = h.broken.broken })
       (λ place number h. record { index = h.index; below = omega (arith, slice_get_within text h.index h.rule h.stands); broken = record { rule = h.rule; stands = h.stands; broken = h.broken } }) s
 
@@ -53,15 +53,15 @@ one-first text place number other_place other f g = by_order (f.first other_plac
 pub none-first : NoneIsFirst
 none-first text place number none f = none place number f.broken
 
-module _ (text : List Rule) (broken : Option Broken) (sees : Sees None broken (Breaks text)) where
-  pub first-broken : (b : Broken) → broken ≡ Some b → IsFirst text b.place b.number
-  first-broken b e = let both = first_is broken (Breaks text) b sees e in record { broken = both.0; first = both.1 }
+module _ (text : List Rule) (broken : Option (Broken ℕ)) (sees : Sees offset None broken (Breaks text)) where
+  pub first-broken : (b : Broken ℕ) → broken ≡ Some b → IsFirst text b.place b.rule
+  first-broken b e = let both = first_is offset broken (Breaks text) b sees e in record { broken = both.0; first = both.1 }
 
   pub none-broken : broken ≡ None → BreaksNone text
-  none-broken e = none_is broken (Breaks text) sees e
+  none-broken e = none_is offset broken (Breaks text) sees e
 
-  pub only-broken : (b : Broken) → broken ≡ Some b → (place number : ℕ) → IsFirst text place number → At b.place b.number ≡ At place number
-  only-broken b e place number f = let same = one-first text b.place b.number place number (first-broken b e) f in ap (λ p. At p b.number) same.0 ∙ ap (At place) same.1
+  pub only-broken : (b : Broken ℕ) → broken ≡ Some b → (place number : ℕ) → IsFirst text place number → At b.place b.rule ≡ At place number
+  only-broken b e place number f = let same = one-first text b.place b.rule place number (first-broken b e) f in ap (λ p. At p b.rule) same.0 ∙ ap (At place) same.1
 
 -- ---- numbers of parameters
 
@@ -84,7 +84,7 @@ few-parameters text scopes are name = by_test (is_float name)
 -- ---- a ranking and N3
 
 module _ (text : List Rule) (ranked : IsRanked text) where
-  not-above : (steps : ℕ) (a b : List ℕ) → LeadsWithin text steps a b → ranked.rank b ≤ ranked.rank a
+  not-above : (steps : ℕ) (a b : List ℕ) → ReachesWithin text steps a b → ranked.rank b ≤ ranked.rank a
   not-above zero a b same = let e : ranked.rank a ≡ ranked.rank b = ap ranked.rank same in omega (arith, e)
   not-above (suc steps) a b walk = omega (arith, ranked.falls a walk.0 walk.1, not-above steps walk.0 b walk.2)
 

@@ -6,7 +6,7 @@ use Rattle.std.proofs.lemmas.Bool.{cond-true}
 use Rattle.std.proofs.lemmas.Cmp.{nat_list_eq_equiv}
 use Rattle.std.proofs.lemmas.List.Elements.{All-from_recursion, All-contains, Contains-append_cases}
 use Rattle.std.proofs.lemmas.Map.Views.{list_any-from_Contains}
-use Rattle.ecd_prelude.specs.Laws.{name_in, is_socket, IsNoSocket, DefinesType}
+use Rattle.ecd_prelude.specs.Laws.{name_in, IsNoSocket, DefinesType}
 use Rattle.ecd_prelude.specs.Prelude.{prelude_rules, float_names, defines, either, only, choice, named, name_of}
 use Rattle.ecd_prelude.proofs.Names.{names-are_no_sockets}
 use Rattle.ecd_prelude.proofs.Rules.{each_defines_type}
@@ -21,9 +21,9 @@ use Rattle.ecd_uses.specs.declared.site.Lead.TheVariants as leads
 use Rattle.ecd_uses.specs.Leads.{entry_lead, only_or, lead_of, type_lead, choice_lead, form_lead}
 use Rattle.ecd_uses.specs.Listed.{operated_lead}
 use Rattle.ecd_uses.proofs.Layers.{entry-lead, type-lead, choice-lead, named-lead, tag-lead, hash-lead}
-use Rattle.ecd_rules.specs.Kinds.{LeadsToGroup, MakesGroup, GroupWithin}
-use Rattle.ecd_rules.specs.Named.{all_rules, bodies_of, first_of, first_arity, is_float, is_named}
-use Rattle.ecd_rules.specs.Sockets.{is_group_socket}
+use Rattle.ecd_bodies.specs.Kinds.{LeadsToGroup, MakesGroup, GroupWithin}
+use Rattle.ecd_bodies.specs.Named.{all_rules, bodies_of, first_of, first_arity, is_float, is_named}
+use Rattle.ecd_prelude.specs.Sockets.{is_socket, is_group_socket}
 use Rattle.ecd_names.specs.Breaks.{IsOfPrelude, OfPrelude, BreaksNone, AtName, Duplicate}
 use Rattle.ecd_names.specs.Laws.{PreludeTakesNone, PreludeIsOfTypes}
 use Rattle.ecd_names.proofs.Nodes.{position-some, node-named}

@@ -1,7 +1,6 @@
 -- The rules of names, N1 to N5 (RFC 8610, sections 2.1, 2.2, 3.1, 3.9 and 3.10), over the rules of a text. Every rule of the text is judged, used or not.
 use Rattle.std.specs.Prelude.{ℕ, ◌≡◌, ◌≢◌, ◌<◌, ◌≤◌, ◌⊎◌, true, false, if◌then◌else◌, List, [], Some, length, take, slice_get}
 use Rattle.std.specs.List.{Contains}
-use Rattle.ecd_prelude.specs.Laws.{is_socket}
 use Rattle.ecd_syntax.specs.declared.tree.Assign.TheVariants.{Define, TypeMore, GroupMore}
 use Rattle.ecd_syntax.specs.declared.tree.Name.{Name}
 use Rattle.ecd_syntax.specs.declared.tree.Rule.{Rule}
@@ -10,10 +9,10 @@ use Rattle.ecd_uses.specs.declared.site.Asked.TheVariants.{AType, AGroup}
 use Rattle.ecd_uses.specs.declared.site.Site.{Site}
 use Rattle.ecd_uses.specs.declared.site.Site.TheVariants.{Use, Parenthesis}
 use Rattle.ecd_uses.specs.Sites.{sites_of}
-use Rattle.ecd_rules.specs.Named.{arity_of, IsDefined, is_in_text, is_parameter}
-use Rattle.ecd_rules.specs.Kinds.{IsGroupBeside, LeadsToGroup, IsGroup, IsGroupEntry}
-use Rattle.ecd_rules.specs.Sockets.{is_group_socket}
-use Rattle.ecd_rules.specs.Leading.{LeadsTo}
+use Rattle.ecd_bodies.specs.Named.{arity_of, IsDefined, is_in_text, is_parameter}
+use Rattle.ecd_bodies.specs.Kinds.{IsGroupBeside, LeadsToGroup, IsGroup, IsGroupEntry}
+use Rattle.ecd_prelude.specs.Sockets.{is_socket, is_group_socket, IsTypeSocket}
+use Rattle.ecd_bodies.specs.Reaching.{ReachesName}
 
 -- ---- N1, a name is defined twice
 
@@ -41,10 +40,10 @@ pub record IsUndefined (text : List Rule) (rule : Rule) (name : List ℕ) : Type
 
 -- ---- N3, names are recursive
 
--- a name that is no parameter of the rule, and leads back to the rule's name
+-- a name that is no parameter of the rule, and reaches the rule's name
 pub record IsRecursive (text : List Rule) (rule : Rule) (name : List ℕ) : Type 0 where
   pub free : is_parameter rule.params name ≡ false
-  pub back : LeadsTo text name rule.name.text
+  pub back : ReachesName text name rule.name.text
 
 -- ---- N4, another number of arguments or parameters
 
@@ -62,11 +61,6 @@ IsGroupIn text rule name = IsGroupBeside (IsGroup text) rule.params name
 pub data IsOtherKind (text : List Rule) (rule : Rule) (name : List ℕ) (asked : Asked) : Type 0 where
   GroupForType : asked ≡ AType → IsGroupIn text rule name → IsOtherKind text rule name asked
   TypeForGroup : asked ≡ AGroup → (IsGroupIn text rule name → ⊥) → IsOtherKind text rule name asked
-
--- a name that begins with one `$` alone
-pub record IsTypeSocket (name : List ℕ) : Type 0 where
-  pub socket : is_socket name ≡ true
-  pub single : is_group_socket name ≡ false
 
 -- an assignment that does not suit the kind of its name
 pub data IsOtherAssign (text : List Rule) (rule : Rule) : Type 0 where

@@ -6,8 +6,8 @@ use Rattle.ecd_syntax.specs.declared.tree.Rule.{Rule}
 use Rattle.ecd_uses.specs.declared.site.Site.{Site}
 use Rattle.ecd_uses.specs.declared.site.Site.TheVariants.{Use, Parenthesis}
 use Rattle.ecd_uses.specs.Sites.{sites_of}
-use Rattle.ecd_rules.specs.Edges.{edge_between}
-use Rattle.ecd_rules.specs.Named.{all_rules, first_of, is_parameter}
+use Rattle.ecd_graph.specs.Edges.{edge_between}
+use Rattle.ecd_bodies.specs.Named.{all_rules, first_of, is_parameter}
 
 -- a use of a name leads to the node of the name; a parameter leads nowhere
 abbrev pub site_edges : (List ℕ → Option ℕ) → Rule → Site → List Edge
@@ -21,7 +21,7 @@ rule_edges node rule = flat_map (site_edges node rule) (sites_of rule)
 abbrev pub edges_of : List Rule → List Edge
 edges_of text = flat_map (rule_edges (first_of text)) (all_rules text)
 
--- the numbers of the strongly connected components, in reverse topological order: nodes have one number exactly where they lead to each other, and no node leads to one of a greater number
+-- the numbers of the strongly connected components, in reverse topological order: nodes have one number exactly where they reach each other, and no node reaches one of a greater number
 pub record AreComponents (text : List Rule) (numbers : List ℕ) : Type 0 where
   pub each : length numbers ≡ length (all_rules text)
   pub components : NumbersComponents (length (all_rules text)) (edges_of text) numbers

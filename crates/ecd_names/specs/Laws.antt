@@ -1,9 +1,9 @@
 -- What holds of the rules of names.
 use Rattle.std.specs.Prelude.{ℕ, ◌≡◌, false, List}
 use Rattle.ecd_syntax.specs.declared.tree.Rule.{Rule}
-use Rattle.ecd_rules.specs.Kinds.{IsGroup}
-use Rattle.ecd_rules.specs.Leading.{IsRanked}
-use Rattle.ecd_rules.specs.Named.{arity_of, is_in_text}
+use Rattle.ecd_bodies.specs.Kinds.{IsGroup}
+use Rattle.ecd_bodies.specs.Reaching.{IsRanked}
+use Rattle.ecd_bodies.specs.Named.{arity_of, is_in_text}
 use Rattle.ecd_names.specs.Breaks.{IsOfPrelude, Breaks, BreaksNone, IsFirst}
 
 -- a text has at most one first broken rule

@@ -1,5 +1,4 @@
 pub mod Breaks
-pub mod First
 pub mod Parameters
 pub mod Scopes
 pub mod Edges

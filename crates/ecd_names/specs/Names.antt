@@ -1,9 +1,9 @@
 -- What is known of names that break no rule.
 use Rattle.std.specs.Prelude.{ℕ, ◌≡◌, ◌<◌, ◌^◌, ◌↔◌, true, List, Some, length, take, slice_get}
 use Rattle.ecd_syntax.specs.declared.tree.Rule.{Rule}
-use Rattle.ecd_rules.specs.Named.{bodies_of, arity_of, IsDefined}
-use Rattle.ecd_rules.specs.Kinds.{IsGroup}
-use Rattle.ecd_rules.specs.Leading.{IsRanked}
+use Rattle.ecd_bodies.specs.Named.{bodies_of, arity_of, IsDefined}
+use Rattle.ecd_bodies.specs.Kinds.{IsGroup}
+use Rattle.ecd_bodies.specs.Reaching.{IsRanked}
 use Rattle.ecd_names.specs.Breaks.{RuleBreaks, BreaksNone, IsFirst}
 use Rattle.ecd_names.specs.declared.fault.NameFault.{NameFault}
 use Rattle.ecd_names.specs.declared.fault.NameFault.TheVariants.{At, OutOfMemory}

@@ -2,12 +2,12 @@
 use Rattle.std.specs.Prelude.{ℕ, ◌≡◌, Bool, false, List, Option, Some, None, nat_lt, length, bytes_eq}
 use Rattle.std.specs.BTreeMap.{BTreeMap, get_by}
 use Rattle.std.specs.Cmp.Lexicographic.{slice_cmp}
-use Rattle.std.specs.List.{position_from}
 use Rattle.std.specs.Ordering.{nat_cmp}
 use Rattle.std.specs.declared.vec.Vec.{Vec}
 use Rattle.ecd_syntax.specs.declared.tree.Name.{Name}
+use Rattle.ecd_bodies.specs.Named.{parameter_number}
 use Rattle.ecd_names.specs.Breaks.{IsRepeated}
-use Rattle.ecd_names.specs.First.{Faults, AnyBelow}
+use Rattle.ecd_first.specs.Firsts.{Faults, AnyBelow}
 use Rattle.ecd_names.specs.declared.parameters.Parameters.{Parameters}
 
 -- what stands under a name
@@ -24,13 +24,9 @@ abbrev pub comes_before : Option ℕ → ℕ → Bool
 comes_before (Some n) end = nat_lt n end
 comes_before None end = false
 
--- the number of the first parameter of a name
-abbrev pub first_parameter : List Name → List ℕ → Option ℕ
-first_parameter params name = position_from (λ p. bytes_eq p.text name) 0 params
-
 -- each name has the number of its first parameter
 pub record AreParameters (params : List Name) (known : Parameters) : Type 0 where
-  pub firsts : (name : List ℕ) → under known.firsts name ≡ first_parameter params name
+  pub firsts : (name : List ℕ) → under known.firsts name ≡ parameter_number params name
 
 -- the parameter of this number repeats one before it
 pub record RepeatedAt (params : List Name) (index : ℕ) (place number : ℕ) : Type 0 where
@@ -40,5 +36,5 @@ pub record RepeatedAt (params : List Name) (index : ℕ) (place number : ℕ) : 
   pub number_is : number ≡ 1
 
 -- some parameter repeats one before it
-abbrev pub RepeatsOne : List Name → Faults
+abbrev pub RepeatsOne : List Name → Faults ℕ
 RepeatsOne params = AnyBelow (RepeatedAt params) (length params)

@@ -2,7 +2,7 @@
 use Rattle.std.specs.Prelude.{ℕ, ◌+◌, ◌^◌, ◌≡◌, ◌<◌, List, Some, length, get_or, slice_get}
 use Rattle.ecd_prelude.specs.Prelude.{prelude_rules}
 use Rattle.ecd_syntax.specs.declared.tree.Rule.{Rule}
-use Rattle.ecd_rules.specs.Named.{first_of}
+use Rattle.ecd_bodies.specs.Named.{first_of}
 use Rattle.ecd_names.specs.Breaks.{NameBreaks}
 use Rattle.ecd_names.specs.Edges.{AreComponents}
 use Rattle.ecd_names.specs.Scopes.{IsScope}

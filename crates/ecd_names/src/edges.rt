@@ -1,17 +1,16 @@
 //! The graph of names.
 
 ghost use Rattle.std.specs.Prelude.{◌≡◌, ◌++◌, ℕ, ◌<◌, IfOk, OnOk, length};
-ghost use Rattle.ecd_rules.specs.Named.{all_rules, first_of};
+ghost use Rattle.ecd_bodies.specs.Named.{all_rules, first_of};
 ghost use Rattle.ecd_names.specs.Edges.{site_edges, rule_edges, edges_of, AreComponents};
 ghost use Rattle.ecd_names.specs.Parameters.{AreParameters};
 ghost use Rattle.ecd_names.specs.Scopes.{IsScope, AreScopes};
 
 use crate::parameters::Parameters;
 use crate::scope::Scope;
-use ecd_graph::{Edge, components};
+use ecd_bodies::RuleTable;
+use ecd_graph::{Edge, add_edge, components};
 use ecd_list::OutOfMemory;
-use ecd_rules::RuleTable;
-use ecd_rules::edge::add_edge;
 use ecd_syntax::Rule;
 use ecd_uses::Site;
 use std::alloc::Global;
@@ -73,7 +72,7 @@ fn edges(alloc: Global, table: &RuleTable, scopes: &[Scope]) -> Result<Vec<Edge>
     Ok(edges)
 }
 
-/// The numbers of the strongly connected components of the names, each under the number of a name's first rule, in reverse topological order: names have one number exactly where they lead to each other, and no name leads to one of a greater number.
+/// The numbers of the strongly connected components of the names, each under the number of a name's first rule, in reverse topological order: names have one number exactly where they reach each other, and no name reaches one of a greater number.
 pub(crate) fn component_numbers(
     alloc: Global,
     table: &RuleTable,

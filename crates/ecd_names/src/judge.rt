@@ -1,21 +1,21 @@
 //! The first rule of names that a text breaks.
 
 ghost use Rattle.std.specs.Prelude.{◌≡◌, None, IfOk, OnOk};
-ghost use Rattle.ecd_rules.specs.Named.{all_rules};
-ghost use Rattle.ecd_rules.specs.Leading.{IsRanked};
+ghost use Rattle.ecd_bodies.specs.Named.{all_rules};
+ghost use Rattle.ecd_bodies.specs.Reaching.{IsRanked};
 ghost use Rattle.ecd_names.specs.Breaks.{Breaks};
 ghost use Rattle.ecd_names.specs.Edges.{AreComponents};
-ghost use Rattle.ecd_names.specs.First.{Sees};
+ghost use Rattle.ecd_first.specs.Firsts.{offset, Sees};
 ghost use Rattle.ecd_names.specs.Names.{HasFewParameters};
 ghost use Rattle.ecd_names.specs.Scopes.{AreScopes};
 
 use crate::edges::component_numbers;
-use crate::first::{Broken, First};
 use crate::judge_name::judge_rule;
 use crate::scene::Scene;
 use crate::scope::{Scope, scopes_of};
+use ecd_bodies::RuleTable;
+use ecd_first::{Broken, First};
 use ecd_list::OutOfMemory;
-use ecd_rules::RuleTable;
 use std::alloc::Global;
 
 /// What the rules of the text break.
@@ -24,11 +24,11 @@ fn judge_rules(
     table: &RuleTable,
     scopes: &[Scope],
     components: &[u32],
-    first: &mut First,
+    first: &mut First<u32>,
 ) -> Result<(), OutOfMemory>
     requires scopes { AreScopes (all_rules table.now) scopes.now }
     requires components { AreComponents table.now components.now }
-    ensures { OnOk result (Sees first.old.broken first.new.broken (Breaks table.now)) }
+    ensures { OnOk result (Sees offset first.old.broken first.new.broken (Breaks table.now)) }
 {
     let rules = table.text_rules();
     let prelude = table.rule_count() as usize - rules.len();
@@ -47,8 +47,11 @@ fn judge_rules(
 }
 
 /// The first rule of names that the text breaks.
-pub(crate) fn first_broken(alloc: Global, table: &RuleTable) -> Result<Option<Broken>, OutOfMemory>
-    ensures first { IfOk result (λ broken. Sees None broken (Breaks table.now)) }
+pub(crate) fn first_broken(
+    alloc: Global,
+    table: &RuleTable,
+) -> Result<Option<Broken<u32>>, OutOfMemory>
+    ensures first { IfOk result (λ broken. Sees offset None broken (Breaks table.now)) }
     ensures ranked { IfOk result (λ broken. broken ≡ None → IsRanked table.now) }
     ensures few { IfOk result (λ _. HasFewParameters table.now) }
 {

@@ -2,16 +2,16 @@
 
 ghost use Rattle.std.specs.Prelude.{◌≡◌, ◌↔◌, true, IfOk, OnOk, take};
 ghost use Rattle.ecd_names.specs.Breaks.{IsDuplicate, IsOtherAssign, RuleBreaks};
-ghost use Rattle.ecd_names.specs.First.{Sees};
+ghost use Rattle.ecd_first.specs.Firsts.{offset, Sees};
 ghost use Rattle.ecd_names.specs.Scenes.{IsScene, NameFaults};
 
-use crate::first::First;
 use crate::judge_site::judge_sites;
 use crate::parameters::judge_parameters;
 use crate::scene::Scene;
-use crate::socket::is_type_socket;
+use ecd_first::First;
 use ecd_list::OutOfMemory;
 use ecd_prelude::is_float_name;
+use ecd_prelude::socket::is_type_socket;
 use ecd_syntax::Assign;
 use ecd_uses::lead;
 use std::alloc::Global;
@@ -56,9 +56,9 @@ fn is_other_assign(alloc: Global, scene: &Scene) -> Result<bool, OutOfMemory>
 }
 
 /// N1, N4 and N5 at the rule's name.
-fn judge_name(alloc: Global, scene: &Scene, first: &mut First) -> Result<(), OutOfMemory>
+fn judge_name(alloc: Global, scene: &Scene, first: &mut First<u32>) -> Result<(), OutOfMemory>
     requires { IsScene scene.now }
-    ensures { OnOk result (Sees first.old.broken first.new.broken (NameFaults scene.now.table.now (take scene.now.index scene.now.table.now) scene.now.rule.now)) }
+    ensures { OnOk result (Sees offset first.old.broken first.new.broken (NameFaults scene.now.table.now (take scene.now.index scene.now.table.now) scene.now.rule.now)) }
 {
     let name = &scene.rule.name;
     let is_duplicate = is_duplicate(scene);
@@ -71,9 +71,13 @@ fn judge_name(alloc: Global, scene: &Scene, first: &mut First) -> Result<(), Out
 }
 
 /// What a rule of the text breaks.
-pub(crate) fn judge_rule(alloc: Global, scene: &Scene, first: &mut First) -> Result<(), OutOfMemory>
+pub(crate) fn judge_rule(
+    alloc: Global,
+    scene: &Scene,
+    first: &mut First<u32>,
+) -> Result<(), OutOfMemory>
     requires { IsScene scene.now }
-    ensures { OnOk result (Sees first.old.broken first.new.broken (RuleBreaks scene.now.table.now (take scene.now.index scene.now.table.now) scene.now.rule.now)) }
+    ensures { OnOk result (Sees offset first.old.broken first.new.broken (RuleBreaks scene.now.table.now (take scene.now.index scene.now.table.now) scene.now.rule.now)) }
 {
     judge_name(alloc, scene, first)?;
     judge_parameters(first, scene.rule.params.as_slice(), &scene.scope.parameters);

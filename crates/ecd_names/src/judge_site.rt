@@ -3,22 +3,22 @@
 ghost use Rattle.std.specs.Prelude.{◌≡◌, ◌≢◌, false};
 ghost use Rattle.std.specs.List.{Contains};
 ghost use Rattle.ecd_uses.specs.Sites.{sites_of};
-ghost use Rattle.ecd_rules.specs.Named.{is_parameter};
-ghost use Rattle.ecd_rules.specs.Leading.{Uses};
+ghost use Rattle.ecd_bodies.specs.Named.{is_parameter};
+ghost use Rattle.ecd_bodies.specs.Reaching.{Uses};
 ghost use Rattle.ecd_names.specs.Breaks.{SiteBreaks};
-ghost use Rattle.ecd_names.specs.First.{Sees, EachOf};
+ghost use Rattle.ecd_first.specs.Firsts.{offset, Sees, EachOf};
 ghost use Rattle.ecd_names.specs.Scenes.{IsScene};
 
-use crate::first::First;
 use crate::scene::Scene;
+use ecd_first::First;
 use ecd_syntax::Name;
 use ecd_uses::{Asked, Site};
 
 /// N2 to N5 at a name that is used.
-fn judge_use(scene: &Scene, first: &mut First, name: &Name, args: usize, asked: Asked)
+fn judge_use(scene: &Scene, first: &mut First<u32>, name: &Name, args: usize, asked: Asked)
     requires scene { IsScene scene.now }
     requires used { is_parameter scene.now.rule.now.params name.now.text ≡ false → Uses scene.now.table.now scene.now.rule.now.name.text name.now.text }
-    ensures { Sees first.old.broken first.new.broken (SiteBreaks scene.now.table.now scene.now.rule.now (Site.Use name.now args asked)) }
+    ensures { Sees offset first.old.broken first.new.broken (SiteBreaks scene.now.table.now scene.now.rule.now (Site.Use name.now args asked)) }
 {
     let text = name.text.as_slice();
     let is_undefined = scene.is_undefined(text);
@@ -32,10 +32,10 @@ fn judge_use(scene: &Scene, first: &mut First, name: &Name, args: usize, asked: 
 }
 
 /// What a site breaks.
-fn judge_site(scene: &Scene, first: &mut First, site: &Site)
+fn judge_site(scene: &Scene, first: &mut First<u32>, site: &Site)
     requires scene { IsScene scene.now }
     requires among { Contains (sites_of scene.now.rule.now) site.now }
-    ensures { Sees first.old.broken first.new.broken (SiteBreaks scene.now.table.now scene.now.rule.now site.now) }
+    ensures { Sees offset first.old.broken first.new.broken (SiteBreaks scene.now.table.now scene.now.rule.now site.now) }
 {
     match site {
         Site::Use { name, args, asked } => judge_use(scene, first, name, *args, *asked),
@@ -47,9 +47,9 @@ fn judge_site(scene: &Scene, first: &mut First, site: &Site)
 }
 
 /// What the sites of the rule break.
-pub(crate) fn judge_sites(scene: &Scene, first: &mut First)
+pub(crate) fn judge_sites(scene: &Scene, first: &mut First<u32>)
     requires { IsScene scene.now }
-    ensures { Sees first.old.broken first.new.broken (EachOf (SiteBreaks scene.now.table.now scene.now.rule.now) (sites_of scene.now.rule.now)) }
+    ensures { Sees offset first.old.broken first.new.broken (EachOf (SiteBreaks scene.now.table.now scene.now.rule.now) (sites_of scene.now.rule.now)) }
 {
     for site in scene.scope.sites.as_slice() {
         judge_site(scene, first, site);

@@ -3,7 +3,6 @@
 
 mod edges;
 mod fault;
-mod first;
 mod info;
 mod judge;
 mod judge_name;
@@ -13,13 +12,9 @@ mod names;
 mod parameters;
 mod scene;
 mod scope;
-mod socket;
 
 pub use ecd_list::OutOfMemory;
 pub use ecd_syntax::{Rule, Tree};
 pub use fault::NameFault;
 pub use info::NameInfo;
 pub use names::{Names, resolve};
-
-#[cfg(test)]
-mod tests;

@@ -1,15 +1,15 @@
 //! Names that break no rule.
 
 ghost use Rattle.std.specs.Prelude.{◌≡◌, ◌⊎◌, ◌<◌, ℕ, Some, IfOk, IfErr, MatchResult, MatchOption, length, slice_get};
-ghost use Rattle.ecd_rules.specs.Named.{bodies_of, IsDefined, is_in_text};
-ghost use Rattle.ecd_rules.specs.Leading.{IsRanked};
+ghost use Rattle.ecd_bodies.specs.Named.{bodies_of, IsDefined, is_in_text};
+ghost use Rattle.ecd_bodies.specs.Reaching.{IsRanked};
 ghost use Rattle.ecd_names.specs.Breaks.{BreaksNone, IsFirst};
 ghost use Rattle.ecd_names.specs.Names.{HasCause, IsInfo};
 
 use crate::fault::NameFault;
 use crate::info::NameInfo;
 use crate::judge::first_broken;
-use ecd_rules::RuleTable;
+use ecd_bodies::RuleTable;
 use ecd_syntax::{Rule, Tree};
 use std::alloc::Global;
 use std::marker::Model;
@@ -111,7 +111,7 @@ pub fn resolve(alloc: Global, tree: Tree) -> Result<Names, NameFault>
         None => Ok(Names { table }),
         Some(broken) => Err(NameFault::At {
             place: broken.place,
-            rule: broken.number,
+            rule: broken.rule,
         }),
     }
 }

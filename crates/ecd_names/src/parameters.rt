@@ -1,10 +1,10 @@
 //! The parameters of a rule (RFC 8610, section 3.10).
 
 ghost use Rattle.std.specs.Prelude.{◌≡◌, ◌<◌, ◌^◌, ℕ, length, Some, None, IfOk, OnOk, is_some, if◌then◌else◌, bytes_eq, List};
-ghost use Rattle.ecd_names.specs.First.{Sees, AnyBelow};
+ghost use Rattle.ecd_first.specs.Firsts.{offset, Sees, AnyBelow};
 ghost use Rattle.ecd_names.specs.Parameters.{under, or_first, comes_before, AreParameters, RepeatsOne};
 
-use crate::first::First;
+use ecd_first::First;
 use ecd_list::OutOfMemory;
 use ecd_syntax::Name;
 use std::alloc::Global;
@@ -76,9 +76,9 @@ fn put_first(
 }
 
 /// N1 stands at each parameter that has the name of an earlier one of its rule.
-pub(crate) fn judge_parameters(first: &mut First, params: &[Name], known: &Parameters)
+pub(crate) fn judge_parameters(first: &mut First<u32>, params: &[Name], known: &Parameters)
     requires { AreParameters params.now known.now }
-    ensures { Sees first.old.broken first.new.broken (RepeatsOne params.now) }
+    ensures { Sees offset first.old.broken first.new.broken (RepeatsOne params.now) }
 {
     for (number, param) in params.iter().enumerate() {
         let repeats = known.has_before(number, param.text.as_slice());

@@ -1,15 +1,15 @@
 //! A rule that is judged, and what its names are.
 
 ghost use Rattle.std.specs.Prelude.{◌≡◌, ◌↔◌, true, false};
-ghost use Rattle.ecd_rules.specs.Named.{is_parameter as parameter};
-ghost use Rattle.ecd_rules.specs.Kinds.{LeadsToGroup, IsGroup};
-ghost use Rattle.ecd_rules.specs.Leading.{Uses};
+ghost use Rattle.ecd_bodies.specs.Named.{is_parameter as parameter};
+ghost use Rattle.ecd_bodies.specs.Kinds.{LeadsToGroup, IsGroup};
+ghost use Rattle.ecd_bodies.specs.Reaching.{Uses};
 ghost use Rattle.ecd_names.specs.Breaks.{IsUndefined, IsRecursive, arity_in, IsGroupIn, IsOtherKind};
 ghost use Rattle.ecd_names.specs.Scenes.{IsScene, AreInOneComponent};
 
 use crate::scope::Scope;
-use ecd_rules::RuleTable;
-use ecd_rules::socket::is_socket;
+use ecd_bodies::RuleTable;
+use ecd_prelude::socket::is_socket;
 use ecd_syntax::Rule;
 use ecd_uses::{Asked, Lead};
 
@@ -44,7 +44,7 @@ impl<'a> Scene<'a> {
         !self.is_parameter(name) && !is_socket(name) && !self.table.is_defined(name)
     }
 
-    /// Whether both names have rules, and lead to each other.
+    /// Whether both names have rules, and reach each other.
     fn are_in_one_component(&self, a: &[u8], b: &[u8]) -> bool
         requires { IsScene self.now }
         ensures { (result ≡ true) ↔ AreInOneComponent self.now.table.now self.now.components.now a.now b.now }
@@ -58,7 +58,7 @@ impl<'a> Scene<'a> {
         }
     }
 
-    /// N3: whether the name, which the rule uses, leads back to the rule's name.
+    /// N3: whether the name, which the rule uses, reaches the rule's name.
     pub(crate) fn is_recursive(&self, name: &[u8]) -> bool
         requires scene { IsScene self.now }
         requires used { parameter self.now.rule.now.params name.now ≡ false → Uses self.now.table.now self.now.rule.now.name.text name.now }

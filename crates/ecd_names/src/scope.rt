@@ -1,12 +1,12 @@
 //! The parameters and the sites of each rule.
 
 ghost use Rattle.std.specs.Prelude.{IfOk};
-ghost use Rattle.ecd_rules.specs.Named.{all_rules};
+ghost use Rattle.ecd_bodies.specs.Named.{all_rules};
 ghost use Rattle.ecd_names.specs.Scopes.{IsScope, AreScopes};
 
 use crate::parameters::Parameters;
+use ecd_bodies::RuleTable;
 use ecd_list::OutOfMemory;
-use ecd_rules::RuleTable;
 use ecd_syntax::Rule;
 use ecd_uses::{SiteList, sites};
 use std::alloc::Global;

@@ -7,7 +7,8 @@ use Rattle.std.proofs.lemmas.Map.Made.{IsDistinct-from_count, AllPairs-from_IsDi
 use Rattle.std.proofs.lemmas.Map.Views.{Contains-from_any, list_any-from_Contains}
 use Rattle.std.proofs.lemmas.Slice.Eq.{bytes_eq-Decides}
 use Rattle.ecd_prelude.specs.Prelude.{float_names}
-use Rattle.ecd_prelude.specs.Laws.{all_names, NamesDiffer, is_socket, IsNoSocket, NamesAreNoSockets}
+use Rattle.ecd_prelude.specs.Laws.{all_names, NamesDiffer, IsNoSocket, NamesAreNoSockets}
+use Rattle.ecd_prelude.specs.Sockets.{is_socket}
 
 pub listed : (name : List ℕ) (answer : Bool) → answer ≡ list_any (bytes_eq name) float_names → IsTrue answer ↔ Contains float_names name
 listed name answer e = (λ t. Contains-from_any (λ x y. (bytes_eq-Decides x y).0) name float_names (sym e ∙ t), λ h. e ∙ list_any-from_Contains nat_list_eq_equiv name float_names h)

@@ -1,11 +1,12 @@
 -- What holds of the prelude.
-use Rattle.std.specs.Prelude.{◌≡◌, ◌≢◌, ℕ, Bool, false, nat_eq, List, [], ◌∷◌, ◌++◌, map, None}
+use Rattle.std.specs.Prelude.{◌≡◌, ◌≢◌, ℕ, false, List, [], ◌++◌, map, None}
 use Rattle.std.specs.List.{AllPairs, AllByRecursion}
 use Rattle.ecd_syntax.specs.declared.tree.Assign.TheVariants.{Define}
 use Rattle.ecd_syntax.specs.declared.tree.Entry.{out-Entry}
 use Rattle.ecd_syntax.specs.declared.tree.Key.TheVariants as keys
 use Rattle.ecd_syntax.specs.declared.tree.Rule.{Rule}
 use Rattle.ecd_prelude.specs.Prelude.{prelude_rules, float_names}
+use Rattle.ecd_prelude.specs.Sockets.{is_socket}
 
 abbrev pub name_in : Rule → List ℕ
 name_in rule = rule.name.text
@@ -16,11 +17,6 @@ all_names = map name_in prelude_rules ++ float_names
 
 abbrev pub NamesDiffer : Type 0
 NamesDiffer = AllPairs (λ x y. x ≢ y) all_names
-
--- whether the name begins with `$`
-abbrev pub is_socket : List ℕ → Bool
-is_socket [] = false
-is_socket (c ∷ rest) = nat_eq c 36
 
 abbrev pub IsNoSocket : List ℕ → Type 0
 IsNoSocket name = is_socket name ≡ false

@@ -1,2 +1,4 @@
 pub mod Prelude
+pub mod Sockets
+pub mod Rows
 pub mod Laws

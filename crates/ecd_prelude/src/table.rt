@@ -1,74 +1,64 @@
 //! The table of the prelude.
 
-ghost use Rattle.std.specs.Prelude.{◌≡◌, ◌++◌, IfOk, OnOk};
-ghost use Rattle.ecd_prelude.specs.Prelude.{item_rules, number_rules, content_rules, simple_rules, prelude_rules};
+ghost use Rattle.std.specs.Prelude.{◌≡◌, map, IfOk};
+ghost use Rattle.ecd_prelude.specs.Prelude.{prelude_rules};
+ghost use Rattle.ecd_prelude.specs.Rows.{rule_of as rule_in};
 
-use crate::parts::{
-    define_any, define_either, define_fraction, define_major, define_name, define_simple,
-    define_tag,
-};
+use crate::row::{Body, Row};
+use crate::rule::rule_of;
 use ecd_list::{List, OutOfMemory};
 use ecd_syntax::RuleList;
 use std::alloc::Global;
 
-/// The items of the major types 0 to 3.
-fn add_items(alloc: Global, rules: &mut RuleList) -> Result<(), OutOfMemory>
-    ensures { OnOk result (rules.new ≡ rules.old ++ item_rules) }
-{
-    define_any(alloc, rules, b"any")?;
-    define_major(alloc, rules, b"uint", 0)?;
-    define_major(alloc, rules, b"nint", 1)?;
-    define_either(alloc, rules, b"int", b"uint", b"nint")?;
-    define_major(alloc, rules, b"bstr", 2)?;
-    define_name(alloc, rules, b"bytes", b"bstr")?;
-    define_major(alloc, rules, b"tstr", 3)?;
-    define_name(alloc, rules, b"text", b"tstr")?;
-    Ok(())
-}
+/// The rules, in the order of the RFC.
+const TABLE: [Row; 32] = [
+    // The items of the major types 0 to 3.
+    (b"any", Body::Any),
+    (b"uint", Body::Major(0)),
+    (b"nint", Body::Major(1)),
+    (b"int", Body::Either(b"uint", b"nint")),
+    (b"bstr", Body::Major(2)),
+    (b"bytes", Body::Name(b"bstr")),
+    (b"tstr", Body::Major(3)),
+    (b"text", Body::Name(b"tstr")),
+    // Dates and numbers by tags.
+    (b"tdate", Body::Tag(0, b"tstr")),
+    (b"biguint", Body::Tag(2, b"bstr")),
+    (b"bignint", Body::Tag(3, b"bstr")),
+    (b"bigint", Body::Either(b"biguint", b"bignint")),
+    (b"integer", Body::Either(b"int", b"bigint")),
+    (b"unsigned", Body::Either(b"uint", b"biguint")),
+    (b"decfrac", Body::Fraction(4, b"e10")),
+    (b"bigfloat", Body::Fraction(5, b"e2")),
+    // What bytes and texts stand for, by tags.
+    (b"eb64url", Body::Tag(21, b"any")),
+    (b"eb64legacy", Body::Tag(22, b"any")),
+    (b"eb16", Body::Tag(23, b"any")),
+    (b"encoded-cbor", Body::Tag(24, b"bstr")),
+    (b"uri", Body::Tag(32, b"tstr")),
+    (b"b64url", Body::Tag(33, b"tstr")),
+    (b"b64legacy", Body::Tag(34, b"tstr")),
+    (b"regexp", Body::Tag(35, b"tstr")),
+    (b"mime-message", Body::Tag(36, b"tstr")),
+    (b"cbor-any", Body::Tag(55799, b"any")),
+    // Simple values.
+    (b"false", Body::Simple(20)),
+    (b"true", Body::Simple(21)),
+    (b"bool", Body::Either(b"false", b"true")),
+    (b"nil", Body::Simple(22)),
+    (b"null", Body::Name(b"nil")),
+    (b"undefined", Body::Simple(23)),
+];
 
-/// Dates and numbers by tags.
-fn add_numbers(alloc: Global, rules: &mut RuleList) -> Result<(), OutOfMemory>
-    ensures { OnOk result (rules.new ≡ rules.old ++ number_rules) }
+/// The rules of rows, in order.
+fn rules_of(alloc: Global, rows: &[Row]) -> Result<RuleList, OutOfMemory>
+    ensures { IfOk result (λ rules. rules ≡ map rule_in rows.now) }
 {
-    define_tag(alloc, rules, b"tdate", 0, b"tstr")?;
-    define_tag(alloc, rules, b"biguint", 2, b"bstr")?;
-    define_tag(alloc, rules, b"bignint", 3, b"bstr")?;
-    define_either(alloc, rules, b"bigint", b"biguint", b"bignint")?;
-    define_either(alloc, rules, b"integer", b"int", b"bigint")?;
-    define_either(alloc, rules, b"unsigned", b"uint", b"biguint")?;
-    define_fraction(alloc, rules, b"decfrac", 4, b"e10")?;
-    define_fraction(alloc, rules, b"bigfloat", 5, b"e2")?;
-    Ok(())
-}
-
-/// What bytes and texts stand for, by tags.
-fn add_contents(alloc: Global, rules: &mut RuleList) -> Result<(), OutOfMemory>
-    ensures { OnOk result (rules.new ≡ rules.old ++ content_rules) }
-{
-    define_tag(alloc, rules, b"eb64url", 21, b"any")?;
-    define_tag(alloc, rules, b"eb64legacy", 22, b"any")?;
-    define_tag(alloc, rules, b"eb16", 23, b"any")?;
-    define_tag(alloc, rules, b"encoded-cbor", 24, b"bstr")?;
-    define_tag(alloc, rules, b"uri", 32, b"tstr")?;
-    define_tag(alloc, rules, b"b64url", 33, b"tstr")?;
-    define_tag(alloc, rules, b"b64legacy", 34, b"tstr")?;
-    define_tag(alloc, rules, b"regexp", 35, b"tstr")?;
-    define_tag(alloc, rules, b"mime-message", 36, b"tstr")?;
-    define_tag(alloc, rules, b"cbor-any", 55799, b"any")?;
-    Ok(())
-}
-
-/// Simple values.
-fn add_simples(alloc: Global, rules: &mut RuleList) -> Result<(), OutOfMemory>
-    ensures { OnOk result (rules.new ≡ rules.old ++ simple_rules) }
-{
-    define_simple(alloc, rules, b"false", 20)?;
-    define_simple(alloc, rules, b"true", 21)?;
-    define_either(alloc, rules, b"bool", b"false", b"true")?;
-    define_simple(alloc, rules, b"nil", 22)?;
-    define_name(alloc, rules, b"null", b"nil")?;
-    define_simple(alloc, rules, b"undefined", 23)?;
-    Ok(())
+    let mut rules = List::new(alloc);
+    for row in rows {
+        rules.push(rule_of(alloc, row.0, row.1)?)?;
+    }
+    Ok(rules)
 }
 
 /// The rules of the prelude, in the order of the RFC, with 0 for each place.
@@ -79,10 +69,6 @@ fn add_simples(alloc: Global, rules: &mut RuleList) -> Result<(), OutOfMemory>
 pub fn prelude(alloc: Global) -> Result<RuleList, OutOfMemory>
     ensures { IfOk result (λ rules. rules ≡ prelude_rules) }
 {
-    let mut rules = List::new(alloc);
-    add_items(alloc, &mut rules)?;
-    add_numbers(alloc, &mut rules)?;
-    add_contents(alloc, &mut rules)?;
-    add_simples(alloc, &mut rules)?;
+    let rules = rules_of(alloc, &TABLE)?;
     Ok(rules)
 }

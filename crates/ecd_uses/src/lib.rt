@@ -11,6 +11,3 @@ pub use ecd_list::{List, OutOfMemory};
 pub use ecd_syntax::{Entry, Name, Rule};
 pub use leading::lead;
 pub use site::{Asked, Lead, Site, SiteList};
-
-#[cfg(test)]
-mod tests;

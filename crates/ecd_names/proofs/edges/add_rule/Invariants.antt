@@ -1,6 +1,6 @@
 use Rattle.std.proofs.Common.{◌≡◌, ◌++◌, take}
 use Rattle.std.specs.Prelude.{flat_map}
-use Rattle.ecd_rules.specs.Named.{first_of}
+use Rattle.ecd_bodies.specs.Named.{first_of}
 use Rattle.ecd_names.specs.Edges.{site_edges}
 use Rattle.ecd_names.proofs.edges.add_rule.Given as goal
 

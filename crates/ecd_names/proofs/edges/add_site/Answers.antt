@@ -1,5 +1,5 @@
 use Rattle.std.proofs.Common.{◌≡◌, true, false, sym, ◌∙◌, ap}
-use Rattle.ecd_rules.specs.Named.{first_of, is_parameter}
+use Rattle.ecd_bodies.specs.Named.{first_of, is_parameter}
 use Rattle.ecd_names.proofs.Repeats.{has-parameter}
 use Rattle.ecd_names.proofs.Linking.{adds_edge, adds_none}
 use Rattle.ecd_names.proofs.edges.add_site.Goals as goal

@@ -1,5 +1,5 @@
 use Rattle.std.proofs.Common.{sym, arith}
-use Rattle.ecd_rules.specs.Named.{all_rules, first_of}
+use Rattle.ecd_bodies.specs.Named.{all_rules, first_of}
 use Rattle.ecd_names.specs.Edges.{rule_edges}
 use Rattle.ecd_names.proofs.Walking.{no_element, flat-more}
 use Rattle.ecd_names.proofs.Scoping.{scope_at, scopes-each}

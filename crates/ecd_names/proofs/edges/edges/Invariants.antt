@@ -1,6 +1,6 @@
 use Rattle.std.proofs.Common.{◌≡◌, take}
 use Rattle.std.specs.Prelude.{flat_map}
-use Rattle.ecd_rules.specs.Named.{all_rules, first_of}
+use Rattle.ecd_bodies.specs.Named.{all_rules, first_of}
 use Rattle.ecd_names.specs.Edges.{rule_edges}
 use Rattle.ecd_names.proofs.edges.edges.Given as goal
 

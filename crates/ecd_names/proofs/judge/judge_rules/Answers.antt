@@ -1,8 +1,9 @@
 use Rattle.std.proofs.Common.{◌+◌, ◌-◌, length, ap, arith}
 use Rattle.ecd_prelude.specs.Prelude.{prelude_rules}
-use Rattle.ecd_rules.specs.Named.{all_rules}
+use Rattle.ecd_bodies.specs.Named.{all_rules}
 use Rattle.ecd_names.specs.Names.{BreaksAt}
-use Rattle.ecd_names.proofs.Seeing.{sees_one_more}
+use Rattle.ecd_first.specs.Firsts.{offset}
+use Rattle.ecd_first.proofs.Seeing.{sees_one_more}
 use Rattle.ecd_names.proofs.Scoping.{scope_at, scopes-each}
 use Rattle.ecd_names.proofs.Resolving.{sees_at, sees_text}
 use Rattle.ecd_names.proofs.Counting.{count-before, count-within, stands-text, stands-all}
@@ -37,7 +38,7 @@ judge_rule-requires c =
 pub loop-index-preserved : goal.loop-index-preserved
 loop-index-preserved c =
     let text = c.args.table.now in
-    sees_one_more (BreaksAt text) _ _ _ c.loop-index.index c.loop-index.invariant
+    sees_one_more offset (BreaksAt text) _ _ _ c.loop-index.index c.loop-index.invariant
     (sees_at text _ _ c.loop-index.index c.index-rules-index.result
     (stands-text prelude_rules text c.text_rules-rules.result.now c.text_rules-rules.ensures c.rule_count.result c.rule_count.ensures c.loop-index.index c.index-rules-index.result c.loop-index-test.true c.index-rules-index.is)
     c.in_ok-judge_rule.ensures)

@@ -1,5 +1,5 @@
 use Rattle.std.proofs.Common.{ℕ, ◌≡◌, true, List, subst, ◌↔◌}
-use Rattle.ecd_rules.specs.Kinds.{IsGroup}
+use Rattle.ecd_bodies.specs.Kinds.{IsGroup}
 use Rattle.ecd_names.proofs.Judging.{type_more-other}
 use Rattle.ecd_names.proofs.judge_name.is_other_assign.Goals as goal
 

@@ -13,4 +13,4 @@ returns c =
     (subst (λ (n : List ℕ). (c.is_recursive-is_recursive.result ≡ true) ↔ IsRecursive text rule n) same c.is_recursive-is_recursive.ensures)
     (c.arity-arity.ensures ∙ ap (arity_in text rule) same)
     (subst (λ (n : List ℕ). (c.is_other_kind-is_other_kind.result ≡ true) ↔ IsOtherKind text rule n c.args.asked) same c.is_other_kind-is_other_kind.ensures)
-    c.note.ensures c.note-2.ensures c.note-3.ensures c.note-4.ensures
+    c.note.ensures.seen c.note-2.ensures.seen c.note-3.ensures.seen c.note-4.ensures.seen

@@ -19,7 +19,7 @@ returns-in-None-clause-only_refused c = λ place number.
 
 pub returns-in-Some-clause-refused : goal.returns-in-Some-clause-refused
 returns-in-Some-clause-refused c =
-    subst (λ (t : List Rule). IsFirst t c.in-Some.broken.place c.in-Some.broken.number) c.in_ok-table.ensures (first-broken c.in_ok-table.table c.in_ok-first_broken.field-0 c.in_ok-first_broken.ensures.first c.in-Some.broken c.in-Some.is)
+    subst (λ (t : List Rule). IsFirst t c.in-Some.broken.place c.in-Some.broken.rule) c.in_ok-table.ensures (first-broken c.in_ok-table.table c.in_ok-first_broken.field-0 c.in_ok-first_broken.ensures.first c.in-Some.broken c.in-Some.is)
 
 pub returns-in-Some-clause-only_refused : goal.returns-in-Some-clause-only_refused
 returns-in-Some-clause-only_refused c = λ place number first.

@@ -1,5 +1,5 @@
 use Rattle.std.proofs.Common.{◌+◌, List, take, sym, subst, arith}
-use Rattle.ecd_rules.specs.Named.{all_rules}
+use Rattle.ecd_bodies.specs.Named.{all_rules}
 use Rattle.ecd_names.specs.declared.scope.Scope.{Scope}
 use Rattle.ecd_names.specs.Scopes.{AreScopes}
 use Rattle.ecd_names.proofs.Walking.{no_element}

@@ -1,5 +1,5 @@
 use Rattle.std.proofs.Common.{take}
-use Rattle.ecd_rules.specs.Named.{all_rules}
+use Rattle.ecd_bodies.specs.Named.{all_rules}
 use Rattle.ecd_names.specs.Scopes.{AreScopes}
 use Rattle.ecd_names.proofs.scope.scopes_of.Given as goal
 

@@ -1,6 +1,6 @@
 use Rattle.std.proofs.Common.{◌≡◌, ap, sym, ◌∙◌}
 use Rattle.std.specs.Prelude.{slice_get}
-use Rattle.ecd_rules.specs.Named.{bodies_of}
+use Rattle.ecd_bodies.specs.Named.{bodies_of}
 use Rattle.ecd_names.proofs.Walking.{no_element}
 use Rattle.ecd_names.proofs.names.Names.body.Goals as goal
 

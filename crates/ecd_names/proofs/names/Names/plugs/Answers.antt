@@ -1,5 +1,5 @@
 use Rattle.std.proofs.Common.{ap, length, ◌∙◌}
-use Rattle.ecd_rules.specs.Named.{bodies_of}
+use Rattle.ecd_bodies.specs.Named.{bodies_of}
 use Rattle.ecd_names.proofs.names.Names.plugs.Goals as goal
 
 pub returns : goal.returns

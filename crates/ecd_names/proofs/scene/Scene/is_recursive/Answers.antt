@@ -1,5 +1,5 @@
 use Rattle.std.proofs.Common.{◌≡◌, false, sym, ◌∙◌}
-use Rattle.ecd_rules.specs.Named.{is_parameter}
+use Rattle.ecd_bodies.specs.Named.{is_parameter}
 use Rattle.ecd_names.proofs.Components.{component-recursive}
 use Rattle.ecd_names.proofs.scene.Scene.is_recursive.Goals as goal
 
