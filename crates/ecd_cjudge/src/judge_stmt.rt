@@ -2,20 +2,19 @@
 
 ghost use Rattle.std.specs.Prelude.{◌≡◌, ◌+◌, ◌∷◌, IfOk, OnOk};
 ghost use Rattle.ecd_cast.specs.declared.tree.Stmt.TheVariants.{Assign as AnAssignment};
-ghost use Rattle.ecd_cast.specs.Meaning.{count_of};
-ghost use Rattle.ecd_cast.specs.Meaning.{count_all};
+ghost use Rattle.ecd_cast.specs.Meaning.{count_of, count_all};
 ghost use Rattle.ecd_cast.specs.Kinds.{ANumber};
 ghost use Rattle.ecd_cast.specs.Validity.{own_rules, stmt_faults, block_faults, known_after, assigned_kind, assignable};
 ghost use Rattle.ecd_cjudge.specs.First.{Sees, Finds, place_as};
 ghost use Rattle.ecd_cscope.specs.Surroundings.{Surrounds, around_as};
 ghost use Rattle.ecd_cscope.specs.Variables.{kind_as, kind_if};
 
-use ecd_cscope::directory::Surroundings;
 use crate::first::{First, Spot};
 use crate::judge_expr::{Scene, judge_cell};
 use crate::judge_source::{judge_as, judge_asked, judge_source};
-use ecd_cscope::kind::Kind;
 use ecd_cast::tree::{Source, Stmt};
+use ecd_cscope::directory::Surroundings;
+use ecd_cscope::kind::Kind;
 use ecd_cscope::variables::Variables;
 use ecd_list::OutOfMemory;
 
