@@ -18,6 +18,7 @@ use Rattle.ecd_emit.specs.Variables as v
 use Rattle.ecd_emit.specs.Shorthands.{none_where}
 use Rattle.ecd_emit.specs.Windows.{Callee, Window, IsEnd, placed, asked}
 use Rattle.ecd_fixed_heads.specs.Framed.{ItemStands}
+use Rattle.ecd_emit.specs.Shorthands.{assign, let_argument, let_major, of_two}
 
 -- ---- an item without the items inside it
 
