@@ -1,10 +1,10 @@
 -- The first of the faults that are met, as the judge keeps it.
-use Rattle.std.specs.Prelude.{ℕ, ◌≡◌, if◌then◌else◌, List, [], ◌∷◌, Option, Some, None}
+use Rattle.std.specs.Prelude.{ℕ, ◌≡◌, List, Option, Some, None}
 use Rattle.ecd_cjudge.specs.declared.first.Spot.{Spot}
 use Rattle.ecd_cjudge.specs.declared.first.Broken.{Broken}
 use Rattle.ecd_cjudge.specs.declared.first.First.{First}
 use Rattle.ecd_cast.specs.Meaning.{Place}
-use Rattle.ecd_cast.specs.Validity.{Fault, at_place, is_in_order}
+use Rattle.ecd_cast.specs.Validity.{Fault, at_place, first_of}
 
 abbrev pub place_as : Spot → Place
 place_as s = record { item = s.item; statement = s.statement }

@@ -1,8 +1,7 @@
 //! Names that are given twice.
 
 ghost use Rattle.std.specs.Prelude.{◌≡◌, ◌+◌, [], ◌∷◌, IfOk, OnOk, map};
-ghost use Rattle.ecd_cast.specs.Meaning.{count_of};
-ghost use Rattle.ecd_cast.specs.Meaning.{count_all};
+ghost use Rattle.ecd_cast.specs.Meaning.{count_of, count_all};
 ghost use Rattle.ecd_cast.specs.Validity.{named_by, named_in, head_names};
 ghost use Rattle.ecd_cjudge.specs.First.{place_as};
 ghost use Rattle.ecd_cjudge.specs.Names.{Named};

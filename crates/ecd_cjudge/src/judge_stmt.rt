@@ -2,8 +2,7 @@
 
 ghost use Rattle.std.specs.Prelude.{◌≡◌, ◌+◌, ◌∷◌, IfOk, OnOk};
 ghost use Rattle.ecd_cast.specs.declared.tree.Stmt.TheVariants.{Assign as AnAssignment};
-ghost use Rattle.ecd_cast.specs.Meaning.{count_of};
-ghost use Rattle.ecd_cast.specs.Meaning.{count_all};
+ghost use Rattle.ecd_cast.specs.Meaning.{count_of, count_all};
 ghost use Rattle.ecd_cast.specs.Kinds.{ANumber};
 ghost use Rattle.ecd_cast.specs.Validity.{own_rules, stmt_faults, block_faults, known_after, assigned_kind, assignable};
 ghost use Rattle.ecd_cjudge.specs.First.{Sees, Finds, place_as};

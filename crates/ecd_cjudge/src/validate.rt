@@ -1,14 +1,11 @@
 //! Programs are checked by the rules.
 
-ghost use Rattle.std.specs.Prelude.{◌≡◌, IfOk, IfErr};
-ghost use Rattle.ecd_cast.specs.Validity.{IsValid};
+ghost use Rattle.std.specs.Prelude.{◌≡◌, ◌<◌, ◌^◌, [], IfOk, IfErr, None, length};
 ghost use Rattle.ecd_cast.specs.Spelling.{IsSpelledProgram};
+ghost use Rattle.ecd_cast.specs.Validity.{IsValid, faults_from, first_of};
 ghost use Rattle.ecd_cbuild.specs.Built.{IsFile};
 ghost use Rattle.ecd_cjudge.specs.Causes.{IsCause};
-ghost use Rattle.ecd_cast.specs.Validity.{first_of};
 ghost use Rattle.ecd_cjudge.specs.First.{first_in};
-ghost use Rattle.ecd_cast.specs.Validity.{faults_from};
-ghost use Rattle.std.specs.Prelude.{[], None, length, ◌<◌, ◌^◌};
 
 use crate::first::{Broken, First};
 use crate::judge_item::judge_items;

@@ -22,7 +22,7 @@ type Numbers = BTreeMap<Vec<u8>, u32>;
 
 /// The number of the first function, and of the first struct, of each name; and the cells of each item.
 #[derive(Debug, Drop)]
-pub(crate) struct Directory {
+pub struct Directory {
     functions: Numbers,
     structs: Numbers,
     cells: Vec<Cells>,
@@ -30,24 +30,24 @@ pub(crate) struct Directory {
 
 /// What stands round the item that is judged.
 #[derive(Clone, Copy)]
-pub(crate) struct Surroundings<'a> {
-    pub(crate) alloc: Global,
-    pub(crate) items: &'a [CItem],
-    pub(crate) directory: &'a Directory,
+pub struct Surroundings<'a> {
+    pub alloc: Global,
+    pub items: &'a [CItem],
+    pub directory: &'a Directory,
     /// The item's number.
-    pub(crate) at_: u32,
+    pub at_: u32,
 }
 
 /// A function that is called, and whether it stands before the one that calls.
 #[derive(Clone, Copy)]
-pub(crate) struct Found<'a> {
-    pub(crate) function: &'a Function,
-    pub(crate) is_earlier: bool,
+pub struct Found<'a> {
+    pub function: &'a Function,
+    pub is_earlier: bool,
 }
 
 impl Directory {
     /// The directory of these items.
-    pub(crate) fn of(alloc: Global, items: &[CItem]) -> Result<Directory, OutOfMemory>
+    pub fn of(alloc: Global, items: &[CItem]) -> Result<Directory, OutOfMemory>
         requires { length items.now < 2 ^ 32 }
         ensures directs { IfOk result (λ d. Directs items.now d) }
         ensures cells { IfOk result (λ d. HasCells items.now d.cells.items) }
@@ -85,7 +85,7 @@ impl Directory {
 
 impl<'a> Surroundings<'a> {
     /// Whether a struct of this name stands before the item.
-    pub(crate) fn knows_struct(&self, name: &[u8]) -> bool
+    pub fn knows_struct(&self, name: &[u8]) -> bool
         requires { Surrounds self.now }
         ensures { result ≡ is_among (struct_names (take self.now.at_ self.now.items.now)) name.now }
     {
@@ -96,7 +96,7 @@ impl<'a> Surroundings<'a> {
     }
 
     /// Whether a function of this name stands before the item.
-    pub(crate) fn knows_function(&self, name: &[u8]) -> bool
+    pub fn knows_function(&self, name: &[u8]) -> bool
         requires { Surrounds self.now }
         ensures { result ≡ is_among (function_names (take self.now.at_ self.now.items.now)) name.now }
     {
@@ -107,7 +107,7 @@ impl<'a> Surroundings<'a> {
     }
 
     /// The kind of the cell of a struct that stands before the item.
-    pub(crate) fn cell(&self, name: &[u8], cell: &[u8]) -> Option<Kind<'a>>
+    pub fn cell(&self, name: &[u8], cell: &[u8]) -> Option<Kind<'a>>
         requires { Surrounds self.now }
         ensures { kind_if result ≡ cell_of (structs_before self.now) name.now cell.now }
     {
@@ -121,7 +121,7 @@ impl<'a> Surroundings<'a> {
     }
 
     /// The function of this name in the whole file.
-    pub(crate) fn function(&self, name: &[u8]) -> Option<Found<'a>>
+    pub fn function(&self, name: &[u8]) -> Option<Found<'a>>
         requires { Surrounds self.now }
         ensures { IsFound self.now name.now result }
     {

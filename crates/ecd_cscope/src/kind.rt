@@ -9,7 +9,7 @@ use ecd_cast::tree::{CellKind, Op, ParamKind};
 
 /// The kind of an expression. `Unknown` is that of a part that breaks a rule already.
 #[derive(Clone, Copy)]
-pub(crate) enum Kind<'a> {
+pub enum Kind<'a> {
     Number,
     Truth,
     ReadPointer,
@@ -21,7 +21,7 @@ pub(crate) enum Kind<'a> {
 
 impl<'a> Kind<'a> {
     /// Whether a part of another kind may stand where this one is asked for.
-    pub(crate) fn takes(self, got: Kind<'a>) -> bool
+    pub fn takes(self, got: Kind<'a>) -> bool
         ensures { result ≡ takes (kind_as self.entry) (kind_as got.entry) }
     {
         match (self, got) {
@@ -36,7 +36,7 @@ impl<'a> Kind<'a> {
     }
 
     /// The kind of what a parameter takes.
-    pub(crate) fn of_param(kind: &'a ParamKind) -> Kind<'a>
+    pub fn of_param(kind: &'a ParamKind) -> Kind<'a>
         ensures { kind_as result ≡ param_kind kind.now }
     {
         match kind {
@@ -48,7 +48,7 @@ impl<'a> Kind<'a> {
     }
 
     /// The kind of what a cell holds.
-    pub(crate) fn of_cell(kind: CellKind) -> Kind<'a>
+    pub fn of_cell(kind: CellKind) -> Kind<'a>
         ensures { kind_as result ≡ cell_kind kind }
     {
         match kind {
@@ -68,7 +68,7 @@ impl<'a> Kind<'a> {
     }
 
     /// The kind of a result, by its left operand's.
-    pub(crate) fn of_result(op: Op, left: Kind<'a>) -> Kind<'a>
+    pub fn of_result(op: Op, left: Kind<'a>) -> Kind<'a>
         ensures { kind_as result ≡ result_kind op (kind_as left.entry) }
     {
         match op {
@@ -89,7 +89,7 @@ impl<'a> Kind<'a> {
     }
 
     /// Whether an operator takes operands of these kinds.
-    pub(crate) fn fit(op: Op, left: Kind<'a>, right: Kind<'a>) -> bool
+    pub fn fit(op: Op, left: Kind<'a>, right: Kind<'a>) -> bool
         ensures { result ≡ operands_fit op (kind_as left.entry) (kind_as right.entry) }
     {
         match op {

@@ -18,7 +18,7 @@ type Kinds<'a> = BTreeMap<&'a [u8], Kind<'a>>;
 
 /// A variable or parameter that is known.
 #[derive(Clone, Copy)]
-pub(crate) struct Declared<'a> {
+pub struct Declared<'a> {
     name: &'a [u8],
     kind: Kind<'a>,
     /// The kind that its name had before.
@@ -27,7 +27,7 @@ pub(crate) struct Declared<'a> {
 
 /// The variables and parameters that are known. Contracts see the list of their names and kinds, the last one first.
 #[derive(Drop)]
-pub(crate) struct Variables<'a> {
+pub struct Variables<'a> {
     /// In the order of their declarations.
     declared: Vec<Declared<'a>>,
     /// The kind of the variable of each name that was known last.
@@ -48,7 +48,7 @@ impl<'a> Model for Variables<'a> {
 
 impl<'a> Variables<'a> {
     /// No variables. It takes no memory.
-    pub(crate) fn new(alloc: Global) -> Variables<'a>
+    pub fn new(alloc: Global) -> Variables<'a>
         ensures { result ≡ [] }
     {
         Variables {
@@ -58,28 +58,28 @@ impl<'a> Variables<'a> {
     }
 
     /// How many there are. Those of one name count each.
-    pub(crate) fn len(&self) -> usize
+    pub fn len(&self) -> usize
         ensures { result ≡ length self.now }
     {
         self.declared.len()
     }
 
     /// The kind of the variable of this name that was known last.
-    pub(crate) fn kind_of(&self, name: &[u8]) -> Option<Kind<'a>>
+    pub fn kind_of(&self, name: &[u8]) -> Option<Kind<'a>>
         ensures { kind_if result ≡ kind_in self.now name.now }
     {
         self.kinds.get(name).copied()
     }
 
     /// Whether there is a variable of this name.
-    pub(crate) fn has(&self, name: &[u8]) -> bool
+    pub fn has(&self, name: &[u8]) -> bool
         ensures { result ≡ is_among (names_of self.now) name.now }
     {
         self.kinds.contains_key(name)
     }
 
     /// A variable that is known from here on.
-    pub(crate) fn declare(&mut self, name: &'a [u8], kind: Kind<'a>) -> Result<(), OutOfMemory>
+    pub fn declare(&mut self, name: &'a [u8], kind: Kind<'a>) -> Result<(), OutOfMemory>
         ensures { OnOk result (self.new ≡ (name.entry.now, kind_as kind.entry) ∷ self.old) }
     {
         self.declared.reserve(1)?;
@@ -103,7 +103,7 @@ impl<'a> Variables<'a> {
     }
 
     /// Forgets all variables but the first so many.
-    pub(crate) fn leave(&mut self, outer: usize) -> Result<(), OutOfMemory>
+    pub fn leave(&mut self, outer: usize) -> Result<(), OutOfMemory>
         ensures { OnOk result (self.new ≡ drop (length self.old - outer) self.old) }
     {
         let inner = self.len().saturating_sub(outer);
