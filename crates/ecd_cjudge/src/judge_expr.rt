@@ -6,10 +6,10 @@ ghost use Rattle.ecd_cjudge.specs.First.{Finds, place_as};
 ghost use Rattle.ecd_cscope.specs.Surroundings.{Surrounds, structs_before};
 ghost use Rattle.ecd_cscope.specs.Variables.{kind_as};
 
-use ecd_cscope::directory::Surroundings;
 use crate::first::{First, Spot};
-use ecd_cscope::kind::Kind;
 use ecd_cast::tree::Expr;
+use ecd_cscope::directory::Surroundings;
+use ecd_cscope::kind::Kind;
 use ecd_cscope::variables::Variables;
 use ecd_list::OutOfMemory;
 

@@ -6,14 +6,14 @@ ghost use Rattle.ecd_cast.specs.Validity.{param_broken, struct_names, params_kno
 ghost use Rattle.ecd_cjudge.specs.First.{Sees, Finds, place_as};
 ghost use Rattle.ecd_cscope.specs.Surroundings.{Directs, HasCells, Surrounds, head_rules};
 
-use ecd_cbuild::chains::MOST_LEVELS;
-use ecd_cscope::directory::{Directory, Surroundings};
 use crate::first::{First, Spot};
 use crate::judge_end::block_returns;
 use crate::judge_names::{name_block, name_cells, name_params};
 use crate::judge_stmt::{Scope, judge_block};
-use ecd_cscope::kind::Kind;
 use ecd_cast::tree::{CItem, Function, Param, ParamKind, StructDecl};
+use ecd_cbuild::chains::MOST_LEVELS;
+use ecd_cscope::directory::{Directory, Surroundings};
+use ecd_cscope::kind::Kind;
 use ecd_cscope::variables::Variables;
 use ecd_list::OutOfMemory;
 use std::alloc::Global;

@@ -7,12 +7,12 @@ ghost use Rattle.ecd_cjudge.specs.First.{Finds, place_as};
 ghost use Rattle.ecd_cscope.specs.Surroundings.{Surrounds, structs_before, around_as, called_broken, takes_at, params_in};
 ghost use Rattle.ecd_cscope.specs.Variables.{kind_as};
 
-use ecd_cbuild::chains::MOST_LEVELS;
-use ecd_cscope::directory::Found;
 use crate::first::{First, Spot};
 use crate::judge_expr::{Scene, judge_expr};
-use ecd_cscope::kind::Kind;
 use ecd_cast::tree::{Expr, Param, Source};
+use ecd_cbuild::chains::MOST_LEVELS;
+use ecd_cscope::directory::Found;
+use ecd_cscope::kind::Kind;
 use ecd_list::OutOfMemory;
 
 /// An expression where a kind is asked for.

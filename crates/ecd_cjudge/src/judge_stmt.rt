@@ -10,12 +10,12 @@ ghost use Rattle.ecd_cjudge.specs.First.{Sees, Finds, place_as};
 ghost use Rattle.ecd_cscope.specs.Surroundings.{Surrounds, around_as};
 ghost use Rattle.ecd_cscope.specs.Variables.{kind_as, kind_if};
 
-use ecd_cscope::directory::Surroundings;
 use crate::first::{First, Spot};
 use crate::judge_expr::{Scene, judge_cell};
 use crate::judge_source::{judge_as, judge_asked, judge_source};
-use ecd_cscope::kind::Kind;
 use ecd_cast::tree::{Source, Stmt};
+use ecd_cscope::directory::Surroundings;
+use ecd_cscope::kind::Kind;
 use ecd_cscope::variables::Variables;
 use ecd_list::OutOfMemory;
 

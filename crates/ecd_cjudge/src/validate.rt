@@ -10,13 +10,13 @@ ghost use Rattle.ecd_cjudge.specs.First.{first_in};
 ghost use Rattle.ecd_cast.specs.Validity.{faults_from};
 ghost use Rattle.std.specs.Prelude.{[], None, length, ◌<◌, ◌^◌};
 
+use crate::first::{Broken, First};
+use crate::judge_item::judge_items;
+use ecd_cast::fault::CFault;
+use ecd_cast::tree::{CItem, Program};
 use ecd_cbuild::builder::Valid;
 use ecd_cbuild::chains::longest;
 use ecd_cscope::directory::Directory;
-use ecd_cast::fault::CFault;
-use crate::first::{Broken, First};
-use crate::judge_item::judge_items;
-use ecd_cast::tree::{CItem, Program};
 use ecd_list::OutOfMemory;
 use std::alloc::Global;
 

@@ -10,8 +10,8 @@ ghost use Rattle.ecd_cread.specs.Answers.{AnswersWith, IsAnswer, Breaks};
 use crate::fault::TextFault;
 use crate::lex::MOST_BYTES;
 use crate::program::read_program;
-use ecd_cbuild::builder::Valid;
 use ecd_cast::fault::CFault;
+use ecd_cbuild::builder::Valid;
 use ecd_cjudge::validate::validate;
 use std::alloc::Global;
 

@@ -1,13 +1,11 @@
 -- The variables that a judge knows, and maps and sets of names.
-use Rattle.std.specs.Prelude.{ℕ, ◌≡◌, Bool, List, [], ◌∷◌, ◌++◌, Option, Some, None, map}
-use Rattle.std.specs.BTreeMap.{BTreeMap, get_by}
-use Rattle.std.specs.BTreeSet.{BTreeSet, contains_by}
-use Rattle.std.specs.Cmp.Lexicographic.{slice_cmp}
-use Rattle.std.specs.Ordering.{nat_cmp}
+use Rattle.std.specs.Prelude.{ℕ, ◌≡◌, List, [], ◌∷◌, ◌++◌, Option, Some, None, map}
+use Rattle.std.specs.BTreeMap.{BTreeMap}
 use denote.Ref.{Bor}
 use Rattle.ecd_cscope.specs.declared.kind.Kind.{Kind as Seen}
 use Rattle.ecd_cscope.specs.declared.kind.Kind.TheVariants.{Number, Truth, ReadPointer, WritePointer, Unknown as NoKind, Struct}
 use Rattle.ecd_cscope.specs.declared.variables.Declared.{Declared}
+use Rattle.ecd_cast.specs.ByName.{named}
 use Rattle.ecd_cast.specs.Memory.{Name}
 use Rattle.ecd_cast.specs.Kinds.{Kind, ANumber, ATruth, AReadPointer, AWritePointer, Unknown, AStruct, Known, kind_in}
 

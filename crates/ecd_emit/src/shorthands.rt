@@ -7,10 +7,10 @@ ghost use Rattle.ecd_cast.specs.declared.tree.Expr.TheVariants.{Number as ANumbe
 ghost use Rattle.ecd_emit.specs.Shorthands as spec;
 ghost use Rattle.ecd_emit.specs.Variables as v;
 
-use ecd_cbuild::build::{binary, declare_call, load, name, one, var, when};
 use ecd_cast::tree::{
     Expr, ExprList, Function, Name, Op, Param, ParamKind, ParamList, Source, Stmt, StmtList,
 };
+use ecd_cbuild::build::{binary, declare_call, load, name, one, var, when};
 use ecd_list::OutOfMemory;
 use std::alloc::Global;
 

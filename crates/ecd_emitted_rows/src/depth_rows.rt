@@ -2,11 +2,11 @@
 
 ghost use Rattle.std.specs.Prelude.{◌≤◌};
 
-use ecd_rt::runtime;
 use ecd_cbuild::builder::{Builder, Valid};
 use ecd_ceval::{Arg, Block, BlockList, Machine};
 use ecd_item::{ItemFault, read_item};
 use ecd_list::OutOfMemory;
+use ecd_rt::runtime;
 use std::alloc::Global;
 use std::test::Fail;
 

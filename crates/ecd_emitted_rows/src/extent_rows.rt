@@ -1,9 +1,9 @@
 //! The ends of items, found by the emitted functions, against the reader of items.
 
 use crate::head_rows::{ask, machine, window};
-use ecd_fixed_heads::{extents, heads};
 use ecd_cbuild::builder::{Builder, Valid};
 use ecd_ceval::{Arg, Machine};
+use ecd_fixed_heads::{extents, heads};
 use ecd_item::{ItemFault, OutOfMemory, read_item};
 use std::alloc::Global;
 use std::test::Fail;

@@ -1,9 +1,9 @@
 //! The emitted functions, run over bytes, against the reader of heads.
 
-use ecd_fixed_bytes::{comparison, copier, head_writer, utf8_check};
-use ecd_fixed_heads::heads;
 use ecd_cbuild::builder::{Builder, Valid};
 use ecd_ceval::{Arg, Block, BlockList, Machine};
+use ecd_fixed_bytes::{comparison, copier, head_writer, utf8_check};
+use ecd_fixed_heads::heads;
 use ecd_head::read_head;
 use ecd_list::{ByteList, OutOfMemory};
 use std::alloc::Global;

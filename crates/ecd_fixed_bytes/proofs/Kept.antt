@@ -7,6 +7,7 @@ use Rattle.ecd_fixed_bytes.specs.HeadWriter.{head_length, store_be16, store_be32
 use Rattle.ecd_fixed_bytes.specs.Copier.{copy_bytes, CopiesBytes}
 use Rattle.ecd_emit.proofs.Kept.{among_kept, callee_kept}
 use Rattle.ecd_fixed_bytes.specs.Standing.{ComparisonIsKept, Utf8IsKept, HeadWriterIsKept, CopierIsKept}
+use Rattle.ecd_emit.proofs.Kept.{callee_kept, among_kept}
 
 pub comparison_is_kept : ComparisonIsKept
 comparison_is_kept = record { there = among_kept compare_bytes; mean = λ items more new h. callee_kept ComparesBytes items more (codes "compare_bytes") new h }

@@ -9,6 +9,7 @@ use Rattle.ecd_fixed_bytes.specs.Compare.{compare_bytes, ComparesBytes}
 use Rattle.ecd_fixed_bytes.specs.Utf8.{utf8_names, utf8_begin, utf8_next, utf8_valid, BeginsUtf8, GoesOnUtf8, ChecksUtf8}
 use Rattle.ecd_fixed_bytes.specs.HeadWriter.{put_names, head_length, store_be16, store_be32, store_be64, put_head, HeadLength, StoresNumber, WritesHead}
 use Rattle.ecd_fixed_bytes.specs.Copier.{copy_bytes, CopiesBytes}
+use Rattle.ecd_emit.specs.Among.{AreNew, IsAmong}
 
 -- what checks UTF-8 is there
 pub record Utf8IsThere (items : List CItem) : Type 0 where

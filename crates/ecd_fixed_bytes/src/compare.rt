@@ -12,10 +12,10 @@ ghost use Rattle.ecd_fixed_bytes.specs.Compare as trees;
 ghost use Rattle.ecd_fixed_bytes.specs.Compare.{ComparesBytes};
 ghost use Rattle.ecd_emit.specs.Among.{IsAmong};
 
-use ecd_emit::shorthands::{function, guard, number, pointer};
+use ecd_cast::tree::{CItem, Expr, Function, Op, ParamList, Stmt, StmtList};
 use ecd_cbuild::build::{give, load, name, one, var};
 use ecd_cbuild::builder::Builder;
-use ecd_cast::tree::{CItem, Expr, Function, Op, ParamList, Stmt, StmtList};
+use ecd_emit::shorthands::{function, guard, number, pointer};
 use ecd_list::OutOfMemory;
 use std::alloc::Global;
 

@@ -10,10 +10,10 @@ ghost use Rattle.ecd_fixed_bytes.specs.Copier as trees;
 ghost use Rattle.ecd_fixed_bytes.specs.Copier.{CopiesBytes};
 ghost use Rattle.ecd_emit.specs.Among.{IsAmong};
 
-use ecd_emit::shorthands::{function, number, of_two, output, pointer, put};
+use ecd_cast::tree::{CItem, Function, Op, ParamList, Stmt, StmtList};
 use ecd_cbuild::build::{load, name, one, var};
 use ecd_cbuild::builder::Builder;
-use ecd_cast::tree::{CItem, Function, Op, ParamList, Stmt, StmtList};
+use ecd_emit::shorthands::{function, number, of_two, output, pointer, put};
 use ecd_list::OutOfMemory;
 use std::alloc::Global;
 

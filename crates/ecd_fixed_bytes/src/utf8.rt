@@ -10,10 +10,14 @@ ghost use Rattle.ecd_fixed_bytes.specs.Utf8 as trees;
 ghost use Rattle.ecd_emit.specs.Among.{AreNew};
 ghost use Rattle.ecd_fixed_bytes.specs.Standing.{Utf8IsThere, Utf8Means};
 
-use ecd_emit::shorthands::{answer_where, function, guard, let_number, number, pointer, where_call};
+use ecd_cast::tree::{
+    CItem, CItemList, Expr, ExprList, Function, Op, ParamList, Source, Stmt, StmtList,
+};
 use ecd_cbuild::build::{binary, give, load, name, one, var};
 use ecd_cbuild::builder::Builder;
-use ecd_cast::tree::{CItem, CItemList, Expr, ExprList, Function, Op, ParamList, Source, Stmt, StmtList};
+use ecd_emit::shorthands::{
+    answer_where, function, guard, let_number, number, pointer, where_call,
+};
 use ecd_list::OutOfMemory;
 use std::alloc::Global;
 
@@ -206,5 +210,6 @@ pub fn utf8_check(alloc: Global, builder: &mut Builder) -> Result<(), OutOfMemor
     ensures there { OnOk result (Utf8IsThere builder.new) }
     ensures mean { OnOk result (Utf8Means builder.new) }
 {
-    builder.extend(utf8_items(alloc)?)
+    builder.extend(utf8_items(alloc)?)?;
+    Ok(())
 }

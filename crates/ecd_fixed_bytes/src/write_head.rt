@@ -9,12 +9,12 @@ ghost use Rattle.ecd_fixed_bytes.specs.HeadWriter as trees;
 ghost use Rattle.ecd_emit.specs.Among.{AreNew};
 ghost use Rattle.ecd_fixed_bytes.specs.Standing.{HeadWriterIsThere, HeadWriterMeans};
 
+use ecd_cast::tree::{CItem, CItemList, Expr, ExprList, Function, Op, ParamList, Stmt, StmtList};
+use ecd_cbuild::build::{binary, give, one, var, when};
+use ecd_cbuild::builder::Builder;
 use ecd_emit::shorthands::{
     answer_where, function, give_variable, let_call, let_number, number, output, plus, put,
 };
-use ecd_cbuild::build::{binary, give, one, var, when};
-use ecd_cbuild::builder::Builder;
-use ecd_cast::tree::{CItem, CItemList, Expr, ExprList, Function, Op, ParamList, Stmt, StmtList};
 use ecd_list::OutOfMemory;
 use std::alloc::Global;
 
@@ -264,5 +264,6 @@ pub fn head_writer(alloc: Global, builder: &mut Builder) -> Result<(), OutOfMemo
     ensures there { OnOk result (HeadWriterIsThere builder.new) }
     ensures mean { OnOk result (HeadWriterMeans builder.new) }
 {
-    builder.extend(put_items(alloc)?)
+    builder.extend(put_items(alloc)?)?;
+    Ok(())
 }

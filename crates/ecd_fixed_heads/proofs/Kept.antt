@@ -9,6 +9,7 @@ use Rattle.ecd_fixed_heads.specs.Heads.{head_names, load_be16, load_be32, load_b
 use Rattle.ecd_emit.specs.Among.{AreNew}
 use Rattle.ecd_emit.proofs.Kept.{among_kept, callee_kept}
 use Rattle.ecd_fixed_heads.specs.Standing.{HeadsAreThere, HeadsMean, HeadsAreKept}
+use Rattle.ecd_emit.proofs.Kept.{callee_kept, among_kept}
 
 mean_kept : (items more : List CItem) → AreNew head_names more → HeadsMean items → HeadsMean (items ++ more)
 mean_kept items more new h = record {

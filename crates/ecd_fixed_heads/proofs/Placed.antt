@@ -18,6 +18,7 @@ use Rattle.ecd_fixed_heads.proofs.FirstBytes.{size_answers, least_answers}
 use Rattle.ecd_fixed_heads.proofs.Arguments.{argument_answers, read_there}
 use Rattle.ecd_fixed_heads.proofs.Ends.{end_answers, within_answers}
 use Rattle.ecd_fixed_heads.proofs.Valid.{be16_valid, be32_valid, be64_valid, size_valid, least_valid, argument_valid, end_valid, within_valid}
+use Rattle.ecd_emit.proofs.Placed.{placed_last, kept, free_behind, among}
 
 -- ---- the functions, one behind the other
 

@@ -17,6 +17,7 @@ use Rattle.ecd_emit.specs.Shorthands.{number, pointer, let_number, let_call, gua
 use Rattle.ecd_emit.specs.Variables as v
 use Rattle.ecd_emit.specs.Windows.{Callee, Window, IsEnd, placed, asked}
 use Rattle.ecd_fixed_heads.specs.Framed.{ItemStands}
+use Rattle.ecd_emit.specs.Shorthands.{assign, let_argument, let_major, of_two}
 
 -- ---- an item without the items inside it
 

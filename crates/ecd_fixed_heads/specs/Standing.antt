@@ -10,6 +10,7 @@ use Rattle.ecd_emit.specs.Windows.{IsBytes, IsEnd}
 use Rattle.ecd_fixed_heads.specs.Firsts.{size_from, least_from}
 use Rattle.ecd_fixed_heads.specs.Meanings.{LoadsNumber, OfFirst, HeadArgument, HeadEnd, HeadWithin, HeadIsAt, HeadStands, end_within}
 use Rattle.ecd_fixed_heads.specs.Heads.{head_names, load_be16, load_be32, load_be64, head_size, head_least, head_argument, head_end, head_within}
+use Rattle.ecd_emit.specs.Among.{AreNew, IsAmong}
 
 -- the functions over heads are there, so that they may be called
 pub record HeadsAreThere (items : List CItem) : Type 0 where

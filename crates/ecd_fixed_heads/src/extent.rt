@@ -11,13 +11,13 @@ ghost use Rattle.ecd_emit.specs.Among.{AreNew};
 ghost use Rattle.ecd_fixed_heads.specs.Standing.{HeadsAreThere, HeadsMean};
 ghost use Rattle.ecd_fixed_heads.specs.ExtentsStanding.{ExtentsAreThere, ExtentsMean};
 
+use ecd_cast::tree::{CItem, CItemList, Expr, Function, Op, Stmt, StmtList};
+use ecd_cbuild::build::{binary, give, name, one, var};
+use ecd_cbuild::builder::Builder;
 use ecd_emit::shorthands::{
     assign, function, let_argument, let_call, let_major, let_number, none_where, none_without,
     of_two, place_params, where_number, window_args, window_params,
 };
-use ecd_cbuild::build::{binary, give, name, one, var};
-use ecd_cbuild::builder::Builder;
-use ecd_cast::tree::{CItem, CItemList, Expr, Function, Op, Stmt, StmtList};
 use ecd_list::OutOfMemory;
 use std::alloc::Global;
 
@@ -165,5 +165,6 @@ pub fn extents(alloc: Global, builder: &mut Builder) -> Result<(), OutOfMemory>
     ensures there { OnOk result (ExtentsAreThere builder.new) }
     ensures mean { OnOk result (ExtentsMean builder.new) }
 {
-    builder.extend(extent_items(alloc)?)
+    builder.extend(extent_items(alloc)?)?;
+    Ok(())
 }

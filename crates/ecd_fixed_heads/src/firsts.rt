@@ -3,9 +3,9 @@
 ghost use Rattle.std.specs.Prelude.{◌≡◌, IfOk};
 ghost use Rattle.ecd_fixed_heads.specs.Heads as trees;
 
-use ecd_emit::shorthands::{answer_where, function, let_number, number};
-use ecd_cbuild::build::{binary, give, one, var};
 use ecd_cast::tree::{Expr, Function, Op, Stmt, StmtList};
+use ecd_cbuild::build::{binary, give, one, var};
+use ecd_emit::shorthands::{answer_where, function, let_number, number};
 use ecd_list::OutOfMemory;
 use std::alloc::Global;
 

@@ -15,9 +15,9 @@ mod whole_heads;
 use crate::firsts::{head_least, head_size};
 use crate::loads::{load_be16, load_be32, load_be64};
 use crate::whole_heads::{head_argument, head_end, head_within};
+use ecd_cast::tree::{CItem, CItemList};
 use ecd_cbuild::build::one;
 use ecd_cbuild::builder::Builder;
-use ecd_cast::tree::{CItem, CItemList};
 use ecd_list::OutOfMemory;
 pub use extent::extents;
 use std::alloc::Global;
@@ -49,5 +49,6 @@ pub fn heads(alloc: Global, builder: &mut Builder) -> Result<(), OutOfMemory>
     ensures there { OnOk result (HeadsAreThere builder.new) }
     ensures mean { OnOk result (HeadsMean builder.new) }
 {
-    builder.extend(head_items(alloc)?)
+    builder.extend(head_items(alloc)?)?;
+    Ok(())
 }

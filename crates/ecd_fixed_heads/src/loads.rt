@@ -3,11 +3,11 @@
 ghost use Rattle.std.specs.Prelude.{◌≡◌, IfOk};
 ghost use Rattle.ecd_fixed_heads.specs.Heads as trees;
 
+use ecd_cast::tree::{Expr, Function, Op, Stmt, StmtList};
+use ecd_cbuild::build::{binary, load, one, var};
 use ecd_emit::shorthands::{
     byte_here, function, later_args, let_call, place_args, place_params, plus,
 };
-use ecd_cbuild::build::{binary, load, one, var};
-use ecd_cast::tree::{Expr, Function, Op, Stmt, StmtList};
 use ecd_list::OutOfMemory;
 use std::alloc::Global;
 

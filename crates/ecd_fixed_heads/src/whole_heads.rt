@@ -8,13 +8,13 @@ ghost use Rattle.ecd_emit.specs.Variables as v;
 ghost use Rattle.ecd_fixed_heads.specs.Heads as trees;
 
 use crate::firsts::let_info;
+use ecd_cast::tree::{Expr, Function, Op, ParamList, Stmt, StmtList};
+use ecd_cbuild::build::{load, name, one, var};
 use ecd_emit::shorthands::{
     byte_here, function, give_variable, later_args, let_argument, let_call, let_number, major_here,
     none_where, none_without, number, of_two, place_params, plus, where_call, where_number,
     window_args, window_params,
 };
-use ecd_cbuild::build::{load, name, one, var};
-use ecd_cast::tree::{Expr, Function, Op, ParamList, Stmt, StmtList};
 use ecd_list::OutOfMemory;
 use std::alloc::Global;
 

@@ -1,6 +1,6 @@
 use ecd_item::{
-    Boxed, ByteList, Cause, Item, ItemFault, NoRoom, OutOfMemory, Pair, PairList, is_valid, length_of,
-    read_item, write_item,
+    Boxed, ByteList, Cause, Item, ItemFault, NoRoom, OutOfMemory, Pair, PairList, is_valid,
+    length_of, read_item, write_item,
 };
 use std::alloc::Global;
 use std::test::Fail;

@@ -10,8 +10,8 @@ ghost use Rattle.ecd_rt.specs.Variables as w;
 ghost use Rattle.ecd_rt.specs.Trees as trees;
 
 use crate::names::{any_name, items_name, pairs_name};
-use ecd_cbuild::build::{binary, declare_call, name, one, var};
 use ecd_cast::tree::{Expr, ExprList, Function, Name, Op, ParamList, Source, Stmt, StmtList};
+use ecd_cbuild::build::{binary, declare_call, name, one, var};
 use ecd_emit::shorthands::{
     assign, function, give_variable, let_argument, let_call, let_number, number, of_two,
     place_params, where_number, window_args, window_params,
