@@ -5,7 +5,6 @@ use Rattle.ecd_fixed_bytes.specs.Compare.{compare_bytes, ComparesBytes}
 use Rattle.ecd_fixed_bytes.specs.Utf8.{utf8_begin, utf8_next, utf8_valid, BeginsUtf8, GoesOnUtf8, ChecksUtf8}
 use Rattle.ecd_fixed_bytes.specs.HeadWriter.{head_length, store_be16, store_be32, store_be64, put_head, HeadLength, StoresNumber, WritesHead}
 use Rattle.ecd_fixed_bytes.specs.Copier.{copy_bytes, CopiesBytes}
-use Rattle.ecd_emit.proofs.Kept.{among_kept, callee_kept}
 use Rattle.ecd_fixed_bytes.specs.Standing.{ComparisonIsKept, Utf8IsKept, HeadWriterIsKept, CopierIsKept}
 use Rattle.ecd_emit.proofs.Kept.{callee_kept, among_kept}
 

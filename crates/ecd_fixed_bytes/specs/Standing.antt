@@ -4,7 +4,6 @@ use Rattle.std.specs.Int.{w16, w32, w64}
 use Rattle.ecd_cast.specs.declared.tree.CItem.{CItem}
 use Rattle.ecd_cast.specs.Kept.{IsNew}
 use Rattle.ecd_cast.specs.Meaning.{calls_of}
-use Rattle.ecd_emit.specs.Among.{AreNew, IsAmong}
 use Rattle.ecd_fixed_bytes.specs.Compare.{compare_bytes, ComparesBytes}
 use Rattle.ecd_fixed_bytes.specs.Utf8.{utf8_names, utf8_begin, utf8_next, utf8_valid, BeginsUtf8, GoesOnUtf8, ChecksUtf8}
 use Rattle.ecd_fixed_bytes.specs.HeadWriter.{put_names, head_length, store_be16, store_be32, store_be64, put_head, HeadLength, StoresNumber, WritesHead}

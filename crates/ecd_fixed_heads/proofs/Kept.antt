@@ -7,7 +7,6 @@ use Rattle.ecd_fixed_heads.specs.Firsts.{size_from, least_from}
 use Rattle.ecd_fixed_heads.specs.Meanings.{LoadsNumber, OfFirst, HeadArgument, HeadEnd, HeadWithin}
 use Rattle.ecd_fixed_heads.specs.Heads.{head_names, load_be16, load_be32, load_be64, head_size, head_least, head_argument, head_end, head_within}
 use Rattle.ecd_emit.specs.Among.{AreNew}
-use Rattle.ecd_emit.proofs.Kept.{among_kept, callee_kept}
 use Rattle.ecd_fixed_heads.specs.Standing.{HeadsAreThere, HeadsMean, HeadsAreKept}
 use Rattle.ecd_emit.proofs.Kept.{callee_kept, among_kept}
 

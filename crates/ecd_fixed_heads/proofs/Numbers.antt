@@ -11,7 +11,6 @@ use Rattle.ecd_cast.specs.Meaning.{Calls, called}
 use Rattle.ecd_calculus.specs.Ends.{Answers}
 use Rattle.ecd_calculus.proofs.Rules.{return_rule, call_rule, called_rule}
 use Rattle.ecd_emit.specs.Windows.{Window, placed}
-use Rattle.ecd_emit.proofs.Windows.{small, one_byte, part_byte}
 use Rattle.ecd_fixed_heads.specs.Meanings.{LoadsNumber}
 use Rattle.ecd_fixed_heads.specs.Heads.{load_be16, load_be32, load_be64}
 use Rattle.ecd_emit.proofs.Windows.{small, one_byte, part_byte}

@@ -11,7 +11,6 @@ use Rattle.ecd_fixed_heads.specs.Firsts.{size_from, least_from}
 use Rattle.ecd_fixed_heads.specs.Meanings.{LoadsNumber, OfFirst, HeadArgument, HeadEnd, HeadWithin}
 use Rattle.ecd_fixed_heads.specs.Heads.{head_names, head_functions, load_be16, load_be32, load_be64, head_size, head_least, head_argument, head_end, head_within}
 use Rattle.ecd_emit.specs.Among.{AreNew}
-use Rattle.ecd_emit.proofs.Placed.{placed_last, kept, free_behind, among}
 use Rattle.ecd_fixed_heads.specs.Standing.{HeadsAreThere, HeadsMean}
 use Rattle.ecd_fixed_heads.proofs.Numbers.{be16_answers, be32_answers, be64_answers}
 use Rattle.ecd_fixed_heads.proofs.FirstBytes.{size_answers, least_answers}

@@ -9,7 +9,8 @@ use Rattle.ecd_cast.specs.declared.tree.CItem.TheVariants.{Function as AFunction
 use Rattle.ecd_cast.specs.Validity.{IsValidAfter}
 use Rattle.ecd_cast.specs.Spelling.{IsSpelledItem}
 use Rattle.ecd_fixed_heads.specs.Heads.{load_be16, load_be32, load_be64, head_size, head_least, head_argument, head_end, head_within}
-use Rattle.ecd_emit.specs.Among.{IsAmong, IsFree}
+use Rattle.ecd_emit.specs.Among.{IsAmong}
+use Rattle.ecd_emit.specs.Among.{IsFree}
 
 pub be16_valid : (before : List CItem) → IsFree (codes "load_be16") before → IsValidAfter before (AFunction load_be16)
 unfolding load_be16 exprs.shape-the_row-Expr-0 exprs.hidden-the_row-Expr-0 hidden stmts.shape-the_row-Stmt-0 stmts.hidden-the_row-Stmt-0

@@ -13,8 +13,9 @@ use Rattle.ecd_calculus.specs.Ends.{Answers, Does}
 use Rattle.ecd_head.specs.declared.HeadFault.{HeadFault}
 use Rattle.ecd_head.specs.declared.Head.{Head}
 use Rattle.ecd_head.specs.Fault.{head_at}
-use Rattle.ecd_emit.specs.Shorthands.{number, pointer, let_number, let_call, guard, none_where, assign, let_major, of_two, let_argument}
+use Rattle.ecd_emit.specs.Shorthands.{number, pointer, let_number, let_call, guard}
 use Rattle.ecd_emit.specs.Variables as v
+use Rattle.ecd_emit.specs.Shorthands.{none_where}
 use Rattle.ecd_emit.specs.Windows.{Callee, Window, IsEnd, placed, asked}
 use Rattle.ecd_fixed_heads.specs.Framed.{ItemStands}
 use Rattle.ecd_emit.specs.Shorthands.{assign, let_argument, let_major, of_two}

@@ -9,7 +9,7 @@ use Rattle.ecd_cast.specs.declared.tree.Function.{Function}
 use Rattle.ecd_cast.specs.declared.tree.CItem.{CItem}
 use Rattle.ecd_cast.specs.declared.tree.CItem.TheVariants.{Function as AFunction}
 use Rattle.ecd_cast.specs.Memory.{Name}
-use Rattle.ecd_emit.specs.Shorthands.{number, pointer, plus, let_number, let_call, guard, guard_call, none_where, byte_here}
+use Rattle.ecd_emit.specs.Shorthands.{number, pointer, plus, let_number, let_call, guard, guard_call}
 use Rattle.ecd_emit.specs.Variables as v
 use Rattle.ecd_emit.specs.Shorthands.{byte_here, none_where}
 

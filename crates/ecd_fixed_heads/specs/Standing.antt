@@ -5,7 +5,6 @@ use Rattle.ecd_cast.specs.declared.tree.CItem.{CItem}
 use Rattle.ecd_cast.specs.Meaning.{calls_of}
 use Rattle.ecd_head.specs.declared.Head.{Head}
 use Rattle.ecd_head.specs.Fault.{head_at}
-use Rattle.ecd_emit.specs.Among.{AreNew, IsAmong}
 use Rattle.ecd_emit.specs.Windows.{IsBytes, IsEnd}
 use Rattle.ecd_fixed_heads.specs.Firsts.{size_from, least_from}
 use Rattle.ecd_fixed_heads.specs.Meanings.{LoadsNumber, OfFirst, HeadArgument, HeadEnd, HeadWithin, HeadIsAt, HeadStands, end_within}

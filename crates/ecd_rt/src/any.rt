@@ -132,7 +132,8 @@ fn put_leaf(alloc: Global, builder: &mut Builder) -> Result<(), OutOfMemory>
     requires new { AreNew (any_names 0) builder.old }
     ensures { OnOk result (builder.new ≡ builder.old ++ any_functions 0) }
 {
-    builder.extend(leaf_items(alloc)?)
+    builder.extend(leaf_items(alloc)?)?;
+    Ok(())
 }
 
 /// The functions of one level, in their order.
@@ -153,7 +154,8 @@ fn put_level(alloc: Global, below: u8, builder: &mut Builder) -> Result<(), OutO
     requires new { AreNew (trees.level_names below) builder.old }
     ensures { OnOk result (builder.new ≡ builder.old ++ trees.level_functions below) }
 {
-    builder.extend(level_items(alloc, below)?)
+    builder.extend(level_items(alloc, below)?)?;
+    Ok(())
 }
 
 /// Puts the functions with a depth up to `depth` behind the builder's items, among which those that they stand on are.
