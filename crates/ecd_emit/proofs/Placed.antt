@@ -60,14 +60,7 @@ free_behind old front g h k = free_of (old ++ front) g (new_behind old front g h
 pub among : (old front : List CItem) (f : Function) (g : Name) → f.name ≡ g → IsNew g old → function_named (functions_of front) g ≡ Some f → IsAmong f (old ++ front)
 among old front f g e h k = ap (λ (x : Name). function_named (functions_of (old ++ front)) x) e ∙ (named_behind old front g h ∙ k)
 
--- ---- the items, one push after the other
-
-pub begun : (old : List CItem) → old ≡ old ++ []
-begun old = sym (append-nil old)
-
-pub grown : (old front before after : List CItem) (f g : Function) → before ≡ old ++ front → g ≡ f → after ≡ before ++ AFunction g ∷ [] → after ≡ old ++ (front ++ AFunction f ∷ [])
-grown old front before after f g e h k =
-    k ∙ (ap (λ (l : List CItem). l ++ AFunction g ∷ []) e ∙ (ap (λ (x : Function). (old ++ front) ++ AFunction x ∷ []) h ∙ append_assoc old front (AFunction f ∷ [])))
+-- ---- one item
 
 pub valid_by : (before items : List CItem) (f g : Function) → before ≡ items → g ≡ f → IsValidAfter items (AFunction f) → IsValidAfter before (AFunction g)
 valid_by before items f g e h v = subst (λ (l : List CItem). IsValidAfter l (AFunction g)) (sym e) (subst (λ (x : Function). IsValidAfter items (AFunction x)) (sym h) v)
