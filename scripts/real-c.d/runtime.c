@@ -228,7 +228,7 @@ struct item_row {
 
 #define ITEM(bytes, end, at_0, at_1, at_2, at_32) {bytes, sizeof bytes - 1, end, {at_0, at_1, at_2, at_32}}
 
-/* The rows of the tests of `ecd_rt`, in the same order: one line each. */
+/* The rows of depths of `ecd_emitted_rows`, in the same order: one line each. */
 static const struct item_row items[] = {
   ITEM("", 0, 0, 0, 0, 0),
   ITEM("\x00", 1, 1, 1, 1, 1),

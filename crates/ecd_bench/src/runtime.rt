@@ -1,7 +1,7 @@
 //! The fixed functions of emitted files, as text.
 
 use anyhow::Result;
-use ecd_cast::builder::Builder;
+use ecd_cbuild::builder::Builder;
 use ecd_cprint::print;
 use ecd_rt::runtime;
 use std::alloc::Global;

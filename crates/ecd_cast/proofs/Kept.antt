@@ -1,6 +1,6 @@
 -- A valid item stays valid where items are put behind it.
-use Rattle.std.proofs.Common.{◌≡◌, ℕ, ◌+◌, List, [], ◌∷◌, ◌++◌, length, refl, ap, subst, arith, append_assoc, append-nil, add-zero}
-use Rattle.std.specs.Prelude.{flat_map, Option, Some, None, not}
+use Rattle.std.proofs.Common.{◌≡◌, ℕ, zero, suc, ◌+◌, List, [], ◌∷◌, ◌++◌, length, drop, refl, ap, ◌∙◌, subst, arith, append_assoc, append-nil, add-zero}
+use Rattle.std.specs.Prelude.{flat_map, Option, Some, None, not, slice_get}
 use Rattle.ecd_cast.specs.declared.tree.Expr.{Expr}
 use Rattle.ecd_cast.specs.declared.tree.Source.{Source}
 use Rattle.ecd_cast.specs.declared.tree.Source.TheVariants.{Value as FromValue, Call as FromCall}
@@ -25,6 +25,14 @@ back_nil (x ∷ xs) ys e = absurd cc
 
 pub both_nil : {A : Type 0} (xs ys : List A) → xs ≡ [] → ys ≡ [] → xs ++ ys ≡ []
 both_nil xs ys e h = rw (e, h)
+
+pub get_drop : {X : Type 0} (n k : ℕ) (xs : List X) → slice_get (drop n xs) k ≡ slice_get xs (n + k)
+get_drop zero k xs = ap (λ j. slice_get xs j) (omega arith)
+get_drop (suc n) k [] = refl
+get_drop (suc n) k (x ∷ xs) = get_drop n k xs ∙ ap (λ j. slice_get (x ∷ xs) j) same
+  where
+    same : suc (n + k) ≡ suc n + k
+    same = omega arith
 
 map_nil : (p : Place) (rules : List ℕ) → at_place p rules ≡ [] → rules ≡ []
 map_nil p [] e = refl

@@ -12,7 +12,7 @@ use denote.Hole.Carrier.{hidden}
 use Rattle.ecd_cast.specs.Memory.{Step, Name, Memory}
 use Rattle.ecd_cast.specs.Expressions.{Scopes, lookup, binary, given, with_value, load, negated, value_of}
 use Rattle.ecd_cast.specs.Meaning.{Calls, Place, shifted, does, does_row, block, count_of, count_in, scoped, with, on_truth, on_number, turns, and_then, doing}
-use Rattle.ecd_cast.specs.Laws.{count_all}
+use Rattle.ecd_cast.specs.Meaning.{count_all}
 use Rattle.ecd_cast.specs.Spelling.{expr_lexemes, stmt_lexemes, row_lexemes, stmts_lexemes, sign, IsName, IsSpelledExpr, IsSpelledStmt, IsSpelledRow, IsSpelledBlock}
 
 -- ---- expressions

@@ -15,8 +15,8 @@ use Rattle.std.proofs.lemmas.Bool.{cases_Bool, cond-true, cond-false}
 use Rattle.std.proofs.lemmas.Slice.Eq.{bytes_eq-Decides}
 use Rattle.std.proofs.lemmas.Map.Text.{is_eq-slice_cmp}
 use Rattle.ecd_cast.specs.Memory.{Name}
-use Rattle.ecd_cast.specs.Chains.{under}
-use Rattle.ecd_cast.specs.Variables.{has}
+use Rattle.ecd_cast.specs.ByName.{under}
+use Rattle.ecd_cast.specs.ByName.{has}
 
 pub same-name : (x y : Name) → bytes_eq x y ≡ true → x ≡ y
 same-name x y e = (bytes_eq-Decides x y).0 e

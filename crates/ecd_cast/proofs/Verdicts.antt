@@ -5,12 +5,12 @@ use Rattle.std.proofs.lemmas.Bool.{eqb-true, eqb-false, eq-eqb, ltb-true, ltb-fa
 use Rattle.std.proofs.lemmas.List.Elements.{Contains-append_left, Contains-append_right, Contains-append_cases}
 use Rattle.ecd_cast.specs.declared.tree.Program.{Program}
 use Rattle.ecd_cast.specs.Kinds.{unless}
-use Rattle.ecd_cast.specs.Validity.{Fault, IsValid, is_in_order, IsFirstFault, faults_from, faults_of, depth_fault, call_depth_of}
-use Rattle.ecd_cast.specs.First.{first_of}
+use Rattle.ecd_cast.specs.Validity.{Fault, IsValid, is_in_order, IsBefore, IsFirstFault, first_of, faults_from, faults_of, depth_fault, call_depth_of}
+use Rattle.ecd_cast.specs.Laws.{FirstFault}
 use Rattle.ecd_cast.proofs.SmallRules.{file_small, small_each}
 
 -- how one fault stands before another
-abbrev pub Precedes : Fault → Fault → Type 0
+abbrev Precedes : Fault → Fault → Type 0
 Precedes a b = (a.item < b.item) ⊎ ((a.item ≡ b.item) × ((a.statement < b.statement) ⊎ ((a.statement ≡ b.statement) × (a.rule < b.rule))))
 
 -- f is g or stands before it
@@ -29,7 +29,7 @@ not_equal a b apart = by_test (nat_eq a b) refl
     by_test false h = refl
     by_test true h = absurd (apart (eqb-true a b h))
 
-pub before_so : (a b : Fault) → is_in_order a b ≡ true → Precedes a b
+before_so : (a b : Fault) → is_in_order a b ≡ true → Precedes a b
 before_so a b e = by_item (nat_eq a.item b.item) refl
   where
     by_statement : a.item ≡ b.item → (t : Bool) → nat_eq a.statement b.statement ≡ t → (if t then nat_lt a.rule b.rule else nat_lt a.statement b.statement) ≡ true → Precedes a b
@@ -193,7 +193,7 @@ first_is_depth p e h =
     }
 
 -- a program that is not valid has a first fault
-pub some_first : (p : Program) → (IsValid p → ⊥) → (f : Fault) × IsFirstFault p f
+some_first : (p : Program) → (IsValid p → ⊥) → (f : Fault) × IsFirstFault p f
 some_first p bad = by_first (first_of None (faults_from [] p.items 0)) refl
   where
     by_depth : faults_from [] p.items 0 ≡ [] → (b : Bool) → nat_eq p.depth (call_depth_of p.items) ≡ b → (f : Fault) × IsFirstFault p f
@@ -203,3 +203,34 @@ some_first p bad = by_first (first_of None (faults_from [] p.items 0)) refl
     by_first : (o : Option Fault) → first_of None (faults_from [] p.items 0) ≡ o → (f : Fault) × IsFirstFault p f
     by_first (Some f) e = (f, first_of_items p f e)
     by_first None e = by_depth (none_empty (faults_from [] p.items 0) e) (nat_eq p.depth (call_depth_of p.items)) refl
+
+-- a valid program has no fault
+no_fault : (p : Program) (f : Fault) → IsValid p → IsFirstFault p f → ⊥
+no_fault p f v h = none (faults_of p) f (clean p v) h.broken
+  where
+    none : (fs : List Fault) (f : Fault) → fs ≡ [] → Contains fs f → ⊥
+    none [] f e c = search Rattle.std.proofs.Common.rules
+    none (g ∷ gs) f e c = absurd cc
+
+    clean : (p : Program) → IsValid p → faults_of p ≡ []
+    clean p v =
+        let same : nat_eq p.depth (call_depth_of p.items) ≡ true = eq-eqb _ _ v.depth in
+        rw (v.sound, same)
+
+-- no two faults stand before each other
+not_both : (a b : Fault) → IsBefore a b → IsBefore b a → ⊥
+not_both a b h k = ⊎_elim (λ (last : b.rule ≡ 7). absurd (omega arith)) (λ x. ⊎_elim (λ (last : a.rule ≡ 7). absurd (omega arith)) (λ y. ordered (before_so a b x.1) (before_so b a y.1)) k.1) h.1
+  where
+    statements : (a.statement < b.statement) ⊎ ((a.statement ≡ b.statement) × (a.rule < b.rule)) → (b.statement < a.statement) ⊎ ((b.statement ≡ a.statement) × (b.rule < a.rule)) → ⊥
+    statements x y = ⊎_elim (λ (lt : a.statement < b.statement). ⊎_elim (λ (gt : b.statement < a.statement). absurd (omega arith)) (λ e. let same = e.0 in absurd (omega arith)) y)
+        (λ e. let same = e.0 in ⊎_elim (λ (gt : b.statement < a.statement). absurd (omega arith)) (λ f. let lt = e.1 in let gt = f.1 in absurd (omega arith)) y) x
+
+    ordered : Precedes a b → Precedes b a → ⊥
+    ordered x y = ⊎_elim (λ (lt : a.item < b.item). ⊎_elim (λ (gt : b.item < a.item). absurd (omega arith)) (λ e. let same = e.0 in absurd (omega arith)) y)
+        (λ e. let same = e.0 in ⊎_elim (λ (gt : b.item < a.item). absurd (omega arith)) (λ f. statements e.1 f.1) y) x
+
+one_first : (p : Program) (f g : Fault) → IsFirstFault p f → IsFirstFault p g → f ≡ g
+one_first p f g h k = ⊎_elim (λ (e : g ≡ f). sym e) (λ (x : IsBefore f g). ⊎_elim (λ (e : f ≡ g). e) (λ (y : IsBefore g f). absurd (not_both f g x y)) (k.first f h.broken)) (h.first g k.broken)
+
+pub first_fault : FirstFault
+first_fault = record { some = some_first; none = no_fault; one = one_first }

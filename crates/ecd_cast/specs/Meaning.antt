@@ -150,6 +150,11 @@ abbrev mutual
   count_in end_of-Stmt = 0
   count_in (more_of-Stmt s rest) = count_of s + count_in rest
 
+-- how many statements a list has, those inside counted
+abbrev pub count_all : List Stmt → ℕ
+count_all [] = 0
+count_all (s ∷ rest) = count_of s + count_all rest
+
 -- what a statement does once it is begun; each begun statement is a step
 abbrev mutual
   pub does : Calls → Stmt → Place → Code

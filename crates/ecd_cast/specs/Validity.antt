@@ -317,6 +317,15 @@ pub record IsValid (p : Program) : Type 0 where
 abbrev pub is_in_order : Fault → Fault → Bool
 is_in_order a b = if nat_eq a.item b.item then (if nat_eq a.statement b.statement then nat_lt a.rule b.rule else nat_lt a.statement b.statement) else nat_lt a.item b.item
 
+abbrev pub earlier : Option Fault → Fault → Option Fault
+earlier None f = Some f
+earlier (Some g) f = if is_in_order f g then Some f else Some g
+
+-- the first of one that may be there already and of these
+abbrev pub first_of : Option Fault → List Fault → Option Fault
+first_of o [] = o
+first_of o (f ∷ fs) = first_of (earlier o f) fs
+
 -- C7 comes behind all others
 abbrev pub IsBefore : Fault → Fault → Type 0
 IsBefore a b = (a.rule < 7) × ((b.rule ≡ 7) ⊎ ((b.rule < 7) × (is_in_order a b ≡ true)))

@@ -10,7 +10,7 @@ use Rattle.ecd_cast.specs.declared.tree.Param.{Param}
 use Rattle.ecd_cast.specs.declared.value.Value.{Value}
 use Rattle.ecd_cast.specs.Memory.{Name, Memory}
 use Rattle.ecd_cast.specs.Meaning.{Run, calls_of, no_calls, with_item, called, frame_of}
-use Rattle.ecd_cast.proofs.Calculus.{calls_append}
+use Rattle.ecd_calculus.proofs.Calculus.{calls_append}
 
 -- one more item
 calls_more : (items : List CItem) (at n : ℕ) (d : CItem) → n ≡ at + 1 → at < length items → calls_of (take n items) ≡ with_item (calls_of (take at items)) at (get_or items at d)

@@ -6,7 +6,7 @@ use Rattle.ecd_cast.specs.declared.tree.Stmt.TheBlock as stmts
 use Rattle.ecd_cast.specs.declared.tree.Stmt.TheVariants.{If, For}
 use Rattle.ecd_cast.specs.Memory.{Name}
 use Rattle.ecd_cast.specs.Meaning.{count_of, count_in}
-use Rattle.ecd_cast.specs.Laws.{count_all}
+use Rattle.ecd_cast.specs.Meaning.{count_all}
 use Rattle.ecd_cast.proofs.Layers.{count-hidden}
 
 pub count-If : (t : Expr) (ys ns : List Stmt) → count_of (If t ys ns) ≡ 1 + count_all ys + count_all ns

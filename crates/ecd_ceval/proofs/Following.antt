@@ -4,9 +4,9 @@ use Rattle.std.specs.Prelude.{Result, Ok, Err, map}
 use Rattle.ecd_cast.specs.Memory.{Memory, Event, Step, Enters, Leaves, WritesByte, WritesCell, after, event, steps_of, first_steps}
 use Rattle.ecd_cast.specs.Expressions.{Scopes}
 use Rattle.ecd_cast.specs.Meaning.{Run, Falls, Returns, Stuck, doing, and_then, events_of, Code}
-use Rattle.ecd_cast.proofs.Calculus.{steps-append, after-append}
+use Rattle.ecd_calculus.proofs.Calculus.{steps-append, after-append}
 use Rattle.std.proofs.lemmas.List.{drop_all, take_all}
-use Rattle.ecd_cast.proofs.Frame.{steps}
+use Rattle.ecd_calculus.proofs.Frame.{steps}
 use Rattle.ecd_ceval.specs.declared.blocks.Held.{Held}
 use Rattle.ecd_ceval.specs.declared.meter.Meter.{Meter}
 use Rattle.ecd_ceval.specs.declared.meter.Meter.TheVariants.{Left, Taken}

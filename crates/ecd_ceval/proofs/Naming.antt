@@ -13,7 +13,7 @@ use Rattle.ecd_cast.specs.Kept.{IsNew}
 use Rattle.ecd_cast.specs.Meaning.{Place, calls_of}
 use Rattle.ecd_cast.specs.Validity.{at_place, is_among, function_names, struct_names, param_broken, block_returns, item_faults, faults_from}
 use Rattle.ecd_cast.proofs.Kept.{front_nil, back_nil}
-use Rattle.ecd_cast.proofs.Calculus.{calls_kept}
+use Rattle.ecd_calculus.proofs.Calculus.{calls_kept}
 use Rattle.ecd_ceval.specs.Machines.{meaning_of}
 use Rattle.ecd_ceval.specs.Laws.{NumbersMeanNames}
 use Rattle.ecd_ceval.proofs.Calling.{meant_here}

@@ -14,7 +14,7 @@ use Rattle.ecd_cast.specs.declared.value.Value.TheVariants.{Number as Num, Truth
 use Rattle.ecd_cast.specs.Memory.{Name, Memory, Event, Step, Enters, Leaves, after}
 use Rattle.ecd_cast.specs.Expressions.{Outcome, Gives, Fails, Scopes, lookup, given, value_of}
 use Rattle.ecd_cast.specs.Meaning.{Run, Falls, Returns, Stuck, Calls, Code, Place, doing, and_then, fall, events_of, does, block, turns, scoped, leave, declare, assign, shifted, count_of, with_args, from_call, with, calls_of, calls_from, no_calls, with_item, called, ended, frame_of}
-use Rattle.ecd_cast.specs.Laws.{count_all}
+use Rattle.ecd_cast.specs.Meaning.{count_all}
 use Rattle.ecd_cast.proofs.Layers.{does-If, does-For}
 use Rattle.ecd_ceval.specs.declared.stop.Flow.{Flow}
 use Rattle.ecd_ceval.specs.declared.stop.Flow.TheVariants as flow

@@ -2,7 +2,7 @@
 
 ghost use Rattle.std.specs.Prelude.{◌≡◌, IfSome};
 ghost use Rattle.ecd_cast.specs.Meaning as meaning;
-ghost use Rattle.ecd_cast.specs.Laws.{count_all as all_of};
+ghost use Rattle.ecd_cast.specs.Meaning.{count_all as all_of};
 
 use ecd_cast::tree::Stmt;
 

@@ -20,8 +20,3 @@ mod variables;
 
 pub use ecd_cast::value::Cell;
 pub use machine::{Arg, Block, BlockList, Halt, Machine};
-
-#[cfg(test)]
-mod machine_tests;
-#[cfg(test)]
-mod tests;

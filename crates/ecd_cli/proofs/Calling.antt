@@ -15,9 +15,9 @@ use Rattle.ecd_cast.specs.Memory.{Name, steps_of}
 use Rattle.ecd_cast.specs.Meaning.{Run, Returns, Stuck as StuckRun, events_of}
 use Rattle.ecd_cast.specs.Kept.{IsNew}
 use Rattle.ecd_cast.specs.Validity.{Fault, IsValid, IsFirstFault, structs_of, faults_from}
-use Rattle.ecd_cast.proofs.Directs.{get_drop}
-use Rattle.ecd_cast.specs.Lookup.{AreReaderParams, IsFunctionAt}
-use Rattle.ecd_cast.proofs.Frame.{first_fault}
+use Rattle.ecd_cast.proofs.Kept.{get_drop}
+use Rattle.ecd_cbuild.specs.Lookup.{AreReaderParams, IsFunctionAt}
+use Rattle.ecd_cast.proofs.Verdicts.{first_fault}
 use Rattle.ecd_ceval.proofs.Naming.{behind_it}
 use Rattle.ecd_cast.specs.Spelling.{IsSpelling}
 use Rattle.ecd_cgrammar.specs.Faults.{FaultAt}

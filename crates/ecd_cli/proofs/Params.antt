@@ -7,7 +7,7 @@ use Rattle.ecd_cast.specs.declared.tree.Function.{Function}
 use Rattle.ecd_cast.specs.declared.tree.CItem.{CItem}
 use Rattle.ecd_cast.specs.declared.tree.CItem.TheVariants.{Function as AFunction}
 use Rattle.ecd_cast.specs.Memory.{Name}
-use Rattle.ecd_cast.specs.Lookup.{AreReaderParams}
+use Rattle.ecd_cbuild.specs.Lookup.{AreReaderParams}
 use Rattle.ecd_cli.specs.Calls.{TakesStruct}
 
 pub three_are : (xs : List Param) (a b c : Param) → length xs ≡ 3 → a ≡ get_or xs 0 a → b ≡ get_or xs 1 b → c ≡ get_or xs 2 c → xs ≡ a ∷ b ∷ c ∷ []

@@ -12,7 +12,7 @@ use Rattle.ecd_cast.specs.declared.value.Value.TheVariants.{Number as Num, Bytes
 use Rattle.ecd_cast.specs.Memory.{Name, Memory, Block, Bytes, Cells, Event, after, steps_of}
 use Rattle.ecd_cast.specs.Meaning.{Run, Returns, Stuck as StuckRun, calls_of, events_of}
 use Rattle.ecd_cast.specs.Validity.{Fault, IsValid, IsFirstFault, structs_of}
-use Rattle.ecd_cast.specs.Lookup.{AreReaderParams}
+use Rattle.ecd_cbuild.specs.Lookup.{AreReaderParams}
 use Rattle.ecd_cast.specs.declared.fault.CFault.{CFault}
 use Rattle.ecd_cast.specs.declared.fault.CFault.TheVariants as faults
 use Rattle.ecd_ceval.specs.declared.machine.Halt.{Halt}

@@ -14,10 +14,11 @@ mod thin;
 
 use crate::reader::reader;
 use crate::thin::thin_number;
-use ecd_cast::builder::Valid;
+use ecd_cbuild::builder::Valid;
 use ecd_cprint::print;
 use ecd_judge::judge;
-pub use ecd_judge::{MOST_BYTES, Refusal};
+pub use ecd_judge::Refusal;
+use ecd_lex::MOST_BYTES;
 use ecd_list::ByteList;
 use std::alloc::Global;
 

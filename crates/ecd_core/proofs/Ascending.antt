@@ -4,10 +4,10 @@ use Rattle.std.proofs.lemmas.List.{take_all}
 use Rattle.ecd_keyorder.specs.declared.Order.{Order}
 use Rattle.ecd_keyorder.specs.Order.{IsBefore}
 use Rattle.ecd_keyorder.proofs.Total.{equal_is_same, is_transitive}
-use Rattle.ecd_item.specs.declared.item.Item.{Item}
-use Rattle.ecd_item.specs.declared.item.Pair.{Pair}
-use Rattle.ecd_item.specs.Encoding.{encoding, key_bytes}
-use Rattle.ecd_item.specs.Valid.{Ascend}
+use Rattle.ecd_item_laws.specs.declared.item.Item.{Item}
+use Rattle.ecd_item_laws.specs.declared.item.Pair.{Pair}
+use Rattle.ecd_item_laws.specs.Encoding.{encoding, key_bytes}
+use Rattle.ecd_item_laws.specs.Valid.{Ascend}
 use Rattle.ecd_core.specs.Lists.{Each, HasSome, IsIn}
 
 -- ---- elements

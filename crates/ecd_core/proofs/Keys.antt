@@ -1,66 +1,65 @@
--- Keys of fields, and what plain answers tell of them.
-use Rattle.std.proofs.Common.{◌≡◌, ℕ, ◌<◌, ◌≤◌, ◌^◌, ◌⊎◌, ◌↔◌, Bool, true, false, ◌&&◌, ◌||◌, eqb, nat_lt, nat_le, IsTrue, Some, List, refl, ap, sym, ◌∙◌, subst, arith}
-use Rattle.std.specs.Str.{IsUtf8, is_utf8}
-use Rattle.std.proofs.lemmas.Bool.{lt-ltb, eqb-false}
+-- The key of a field is the one item of its key's shape.
+use Rattle.std.proofs.Common.{◌≡◌, ℕ, ◌<◌, ◌≤◌, ◌^◌, ◌⊎◌, ◌↔◌, Bool, true, false, ◌&&◌, ◌||◌, nat_lt, nat_le, Some, refl, ap, sym, ◌∙◌, subst, arith}
+use Rattle.std.specs.Str.{is_utf8}
+use Rattle.std.proofs.lemmas.Bool.{eqb-true, ltb-true}
 use Rattle.std.proofs.lemmas.Bool.Decides.{nat_tests}
+use Rattle.std.proofs.lemmas.Str.{IsUtf8-from_is_utf8}
 use Rattle.ecd_keyorder.specs.declared.Order.{Order}
-use Rattle.ecd_item.specs.declared.item.Item.{Item}
-use Rattle.ecd_item.specs.declared.item.Item.TheVariants as i
-use Rattle.ecd_item.specs.Valid.{IsValid}
+use Rattle.ecd_item_laws.specs.declared.item.Item.{Item}
+use Rattle.ecd_item_laws.specs.declared.item.Item.TheVariants as i
+use Rattle.ecd_item_laws.specs.Valid.{IsValid}
+use Rattle.ecd_core.specs.declared.shape.Kind.{Kind, Choice', Tag', Cbor', AnyTag', Array', Map'}
 use Rattle.ecd_core.specs.declared.shape.Kind.TheVariants as k
 use Rattle.ecd_core.specs.declared.value.Value.{Value}
 use Rattle.ecd_core.specs.declared.value.Value.TheVariants as v
+use Rattle.ecd_core.specs.Laws.{HasOneKey}
 use Rattle.ecd_core.specs.Values.{Gives, literal, key_of, numbered}
-use Rattle.ecd_core.proofs.Telling.{reworded, no_true}
 
 some_item : (b : Bool) (x y : Item) → literal b x ≡ Some y → (b ≡ true) × (x ≡ y)
 some_item true x y e = (refl, cc)
 some_item false x y e = absurd cc
 
-item_some : (b : Bool) (x y : Item) → b ≡ true → x ≡ y → literal b x ≡ Some y
-item_some b x y e f = ap (λ (c : Bool). literal c x) e ∙ ap Some f
-
-both_true : (a b : Bool) → a ≡ true → b ≡ true → a && b ≡ true
-both_true a b e f = ap (λ (x : Bool). x && b) e ∙ f
-
-first_true : (a b : Bool) → a && b ≡ true → a ≡ true
-first_true true b e = refl
-first_true false b e = absurd (no_true e)
-
-eqb-same : (n : ℕ) → eqb n n ≡ true
-eqb-same n = by_test (eqb n n) refl
-  where
-    by_test : (b : Bool) → eqb n n ≡ b → eqb n n ≡ true
-    by_test true t = t
-    by_test false t = absurd (eqb-false n n t refl)
-
-simple_made : (n : ℕ) → (n < 24) ⊎ ((32 ≤ n) × (n < 256)) → nat_lt n 24 || (nat_le 32 n && nat_lt n 256) ≡ true
-simple_made n h = grind (arith, nat_tests)
+both : (a b : Bool) → a && b ≡ true → (a ≡ true) × (b ≡ true)
+both true b e = (refl, e)
+both false b e = absurd cc
 
 simple_held : (n : ℕ) → nat_lt n 24 || (nat_le 32 n && nat_lt n 256) ≡ true → (n < 24) ⊎ ((32 ≤ n) × (n < 256))
 simple_held n e = grind (arith, nat_tests)
 
-module _ (order : Order) (key : Item) (b : Bool) where
-  pub uint_key : (lo hi : ℕ) → lo ≡ hi → lo < 2 ^ 64 → (IsTrue b ↔ ((w : Value) × Gives order (k.Uint lo hi) key w)) → IsTrue b ↔ (key_of (k.Uint lo hi) ≡ Some key)
-  unfolding Gives
-  uint_key lo hi e lt t = reworded t
-      (λ h. let g = h.1 in item_some _ (i.Uint lo) key (both_true _ _ (ap (eqb lo) (sym e) ∙ eqb-same lo) (lt-ltb lo (2 ^ 64) lt)) (let same : lo ≡ g.0 = omega (arith, g.2.1.0, g.2.1.1, e) in ap i.Uint same ∙ sym g.1))
-      (λ h. let s = some_item _ (i.Uint lo) key h in (numbered lo hi lo, (lo, sym s.1, (lt, (omega arith, omega (arith, e))), refl)))
-
-  pub nint_key : (lo hi : ℕ) → lo ≡ hi → lo < 2 ^ 64 → (IsTrue b ↔ ((w : Value) × Gives order (k.Nint lo hi) key w)) → IsTrue b ↔ (key_of (k.Nint lo hi) ≡ Some key)
-  unfolding Gives
-  nint_key lo hi e lt t = reworded t
-      (λ h. let g = h.1 in item_some _ (i.Nint lo) key (both_true _ _ (ap (eqb lo) (sym e) ∙ eqb-same lo) (lt-ltb lo (2 ^ 64) lt)) (let same : lo ≡ g.0 = omega (arith, g.2.1.0, g.2.1.1, e) in ap i.Nint same ∙ sym g.1))
-      (λ h. let s = some_item _ (i.Nint lo) key h in (numbered lo hi lo, (lo, sym s.1, (lt, (omega arith, omega (arith, e))), refl)))
-
-  pub bytes_key : (bytes : List ℕ) → (IsTrue b ↔ ((w : Value) × Gives order (k.BytesIs bytes) key w)) → IsTrue b ↔ (key_of (k.BytesIs bytes) ≡ Some key)
-  unfolding Gives
-  bytes_key bytes t = reworded t (λ h. ap Some (sym h.1.0)) (λ h. (v.Unit, (let e : i.Bytes bytes ≡ key = cc in sym e, refl)))
-
-  pub text_key : (bytes : List ℕ) → (is_utf8 bytes ≡ true → IsUtf8 bytes) → (IsUtf8 bytes → is_utf8 bytes ≡ true) → (IsTrue b ↔ ((w : Value) × Gives order (k.TextIs bytes) key w)) → IsTrue b ↔ (key_of (k.TextIs bytes) ≡ Some key)
-  unfolding Gives
-  text_key bytes f g t = reworded t (λ h. item_some (is_utf8 bytes) (i.Text bytes) key (g h.1.1) (sym h.1.0)) (λ h. let s = some_item (is_utf8 bytes) (i.Text bytes) key h in (v.Unit, (sym s.1, f s.0, refl)))
-
-  pub simple_key : (n : ℕ) → (IsTrue b ↔ ((w : Value) × Gives order (k.Simple n) key w)) → IsTrue b ↔ (key_of (k.Simple n) ≡ Some key)
+module _ (order : Order) (key item : Item) where
+  one_of : (kind : Kind) → key_of kind ≡ Some key → ((value : Value) × Gives order kind item value) ↔ (item ≡ key)
   unfolding Gives IsValid
-  simple_key n t = reworded t (λ h. item_some _ (i.Simple n) key (simple_made n (subst (IsValid order) h.1.0 h.1.1)) (sym h.1.0)) (λ h. let s = some_item _ (i.Simple n) key h in (v.Unit, (sym s.1, subst (IsValid order) s.1 (simple_held n s.0), refl)))
+  one_of (k.Uint lo hi) e =
+      let s = some_item _ (i.Uint lo) key e in
+      let t = both _ _ s.0 in
+      let same = eqb-true lo hi t.0 in
+      let fits = ltb-true lo (2 ^ 64) t.1 in (
+        (λ h. let g = h.1 in g.1 ∙ (ap i.Uint (omega (arith, g.2.1.0, g.2.1.1, same)) ∙ s.1)),
+        λ f. (numbered lo hi lo, (lo, f ∙ sym s.1, (fits, (omega arith, omega (arith, same))), refl)),
+      )
+  one_of (k.Nint lo hi) e =
+      let s = some_item _ (i.Nint lo) key e in
+      let t = both _ _ s.0 in
+      let same = eqb-true lo hi t.0 in
+      let fits = ltb-true lo (2 ^ 64) t.1 in (
+        (λ h. let g = h.1 in g.1 ∙ (ap i.Nint (omega (arith, g.2.1.0, g.2.1.1, same)) ∙ s.1)),
+        λ f. (numbered lo hi lo, (lo, f ∙ sym s.1, (fits, (omega arith, omega (arith, same))), refl)),
+      )
+  one_of (k.Bytes lo hi) e = absurd cc
+  one_of (k.Text lo hi) e = absurd cc
+  one_of (k.BytesIs bytes) e = let same : i.Bytes bytes ≡ key = cc in ((λ h. h.1.0 ∙ same), λ f. (v.Unit, (f ∙ sym same, refl)))
+  one_of (k.TextIs bytes) e = let s = some_item (is_utf8 bytes) (i.Text bytes) key e in ((λ h. h.1.0 ∙ s.1), λ f. (v.Unit, (f ∙ sym s.1, IsUtf8-from_is_utf8 bytes s.0, refl)))
+  one_of (k.Simple n) e =
+      let s = some_item _ (i.Simple n) key e in
+      ((λ h. h.1.0 ∙ s.1), λ f. (v.Unit, (f ∙ sym s.1, subst (IsValid order) (sym (f ∙ sym s.1)) (simple_held n s.0), refl)))
+  one_of (Tag' n _ inner) e = absurd cc
+  one_of (AnyTag' _ inner) e = absurd cc
+  one_of (k.Any depth) e = absurd cc
+  one_of (k.AnyOf major depth) e = absurd cc
+  one_of (Cbor' _ inner) e = absurd cc
+  one_of (Choice' _ ways) e = absurd cc
+  one_of (Array' _ parts) e = absurd cc
+  one_of (Map' _ entries) e = absurd cc
+
+pub has_one_key : HasOneKey
+has_one_key order shape key item e = one_of order key item shape.kind e

@@ -3,11 +3,11 @@ use Rattle.std.proofs.Common.{◌≡◌, ℕ, zero, suc, ◌<◌, ◌^◌, ◌�
 use mathlib.Core.Former.{Count}
 use denote.Hole.Carrier.{hidden, shown}
 use Rattle.ecd_keyorder.specs.declared.Order.{Order}
-use Rattle.ecd_item.specs.declared.item.Item.{Item}
-use Rattle.ecd_item.specs.declared.item.Item.TheVariants as i
-use Rattle.ecd_item.specs.declared.item.Pair.{Pair}
-use Rattle.ecd_item.specs.Encoding.{encoding}
-use Rattle.ecd_item.specs.Valid.{IsValid}
+use Rattle.ecd_item_laws.specs.declared.item.Item.{Item}
+use Rattle.ecd_item_laws.specs.declared.item.Item.TheVariants as i
+use Rattle.ecd_item_laws.specs.declared.item.Pair.{Pair}
+use Rattle.ecd_item_laws.specs.Encoding.{encoding}
+use Rattle.ecd_item_laws.specs.Valid.{IsValid}
 use Rattle.ecd_core.specs.declared.shape.Kind.{Kind, Choice', Tag', Cbor', AnyTag', Array', Map', Row_of-Shape, end_of-Shape, more_of-Shape, Row_of-MapEntry, end_of-MapEntry, more_of-MapEntry, items-the_row-Shape, items-the_row-MapEntry, roll-Kind, roll-out-Kind, the_lemmas}
 use Rattle.ecd_core.specs.declared.shape.Kind.TheVariants as k
 use Rattle.ecd_core.specs.declared.shape.Kind.TheViews as views
@@ -29,6 +29,12 @@ use Rattle.ecd_core.specs.Lists.{Each}
 use Rattle.ecd_core.specs.Maps.{FieldMeaning, EntryMeaning, AField, APick, ATable, MapHas}
 use Rattle.ecd_core.specs.Values.{IsWithin, Run, run_items, run_value, Gives, AlternativeGives, PartsGive, PartGives, WayGives, meanings, meaning, way_meanings, field_meanings, field_meaning, HasValue}
 use Rattle.ecd_core.specs.Listed.{IsAt, PartsHave, entries_mean, fields_mean, ways_mean}
+
+pub fwd : {A B : Type 0} → A ≡ B → A → B
+fwd e a = subst (λ (X : Type 0). X) e a
+
+pub bwd : {A B : Type 0} → A ≡ B → B → A
+bwd e b = subst (λ (X : Type 0). X) (sym e) b
 
 -- ---- rows are lists
 

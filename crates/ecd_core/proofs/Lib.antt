@@ -1,14 +1,11 @@
 pub mod Ascending
-pub mod Counting
 pub mod MapLaw
 pub mod OneItem
 pub mod Layers
 pub mod WalkLayers
 pub mod WalkLaws
 pub mod ValueLayers
-pub mod Telling
-pub mod Contents
-pub mod Fits
-pub mod MapFits
+pub mod Running
 pub mod Keys
-pub mod MapWhole
+pub mod Taking
+pub mod Owning

@@ -1,15 +1,16 @@
 -- The values of a map belong to one list of pairs, where those of its entries' shapes each belong to one item.
-use Rattle.std.proofs.Common.{◌≡◌, ℕ, ◌<◌, ◌⊎◌, inl, inr, Bool, List, [], ◌∷◌, map, refl, ap, sym, ◌∙◌, subst, arith}
+use Rattle.std.proofs.Common.{◌≡◌, ℕ, ◌⊎◌, inl, inr, Bool, List, [], ◌∷◌, map, refl, ap, sym, ◌∙◌, subst}
 use Rattle.ecd_keyorder.specs.declared.Order.{Order}
-use Rattle.ecd_item.specs.declared.item.Item.{Item}
-use Rattle.ecd_item.specs.declared.item.Pair.{Pair}
-use Rattle.ecd_item.specs.Encoding.{key_bytes}
-use Rattle.ecd_item.specs.Valid.{Ascend}
+use Rattle.ecd_item_laws.specs.declared.item.Item.{Item}
+use Rattle.ecd_item_laws.specs.declared.item.Pair.{Pair}
+use Rattle.ecd_item_laws.specs.Encoding.{key_bytes}
+use Rattle.ecd_item_laws.specs.Valid.{Ascend}
 use Rattle.ecd_core.specs.declared.value.Value.{Value}
 use Rattle.ecd_core.specs.declared.value.Value.TheVariants as v
 use Rattle.ecd_core.specs.Lists.{Each, HasSome, EachWith, IsIn}
-use Rattle.ecd_core.specs.Maps.{ItemValues, FieldMeaning, EntryMeaning, AField, APick, ATable, GivesPair, Suits, way_of, IsTaken, Takes, held, FieldHas, PickHas, RowHas, EntryHas, list_of, IsInOneList, value_of, MapHas}
+use Rattle.ecd_core.specs.Maps.{ItemValues, FieldMeaning, EntryMeaning, AField, APick, ATable, GivesPair, Suits, way_of, Takes, held, FieldHas, PickHas, RowHas, EntryHas, list_of, IsInOneList, value_of, MapHas}
 use Rattle.ecd_core.proofs.Ascending.{some_from_in, in_from_some, each_at, same_key, same_members}
+use Rattle.ecd_core.proofs.Taking.{one_taken}
 use Rattle.ecd_core.proofs.ValueLayers.{ways_alike, groups_alike, manys_alike, absent_present, absent_way, held_alike}
 
 -- a value belongs to at most one item
@@ -26,9 +27,6 @@ OneEntry (ATable lo hi keys under) = OneItem keys × OneItem under
 
 pair_alike : (p q : Pair) → p.key ≡ q.key → p.value ≡ q.value → p ≡ q
 pair_alike p q e f = λ i. record { key = e i; value = f i }
-
-one_taken : (ps : List Pair) (ways : List (List FieldMeaning)) (m n : ℕ) → IsTaken ps ways m → IsTaken ps ways n → m ≡ n
-one_taken ps ways m n p q = omega (arith, λ (h : m < n). q.first m h p.whole, λ (h : n < m). p.first n h q.whole)
 
 module _ (order : Order) (ps qs : List Pair) (ascend : Ascend order (map key_bytes ps)) where
   field_taken : (field : FieldMeaning) → OneUnder field → (u w : Value) → u ≡ w → FieldHas ps field u → FieldHas qs field w → (pair : Pair) → IsIn pair ps → Suits field pair → IsIn pair qs

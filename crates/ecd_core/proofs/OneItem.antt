@@ -1,11 +1,11 @@
 -- A value belongs to at most one item of a shape.
 use Rattle.std.proofs.Common.{◌≡◌, ℕ, zero, suc, inl, inr, List, [], ◌∷◌, ◌++◌, map, refl, ap, sym, ◌∙◌, subst}
 use Rattle.ecd_keyorder.specs.declared.Order.{Order}
-use Rattle.ecd_item.specs.declared.item.Item.{Item}
-use Rattle.ecd_item.specs.declared.item.Item.TheVariants as i
-use Rattle.ecd_item.specs.Encoding.{encoding}
-use Rattle.ecd_item.specs.Valid.{IsValid}
-use Rattle.ecd_item.proofs.Clauses.{begins_with_one_item}
+use Rattle.ecd_item_laws.specs.declared.item.Item.{Item}
+use Rattle.ecd_item_laws.specs.declared.item.Item.TheVariants as i
+use Rattle.ecd_item_laws.specs.Encoding.{encoding}
+use Rattle.ecd_item_laws.specs.Valid.{IsValid}
+use Rattle.ecd_item_laws.proofs.Unique.{begins_with_one_item}
 use Rattle.ecd_core.specs.declared.shape.Kind.{Kind, Choice', Tag', Cbor', AnyTag', Array', Map', Row_of-Shape, end_of-Shape, more_of-Shape, Row_of-MapEntry, end_of-MapEntry, more_of-MapEntry}
 use Rattle.ecd_core.specs.declared.shape.Kind.TheVariants as k
 use Rattle.ecd_core.specs.declared.shape.Part.{Part, One', Opt', Many', Alt', Row_of-Way, end_of-Way, more_of-Way}

@@ -1,11 +1,11 @@
 -- What holds of values and shapes.
-use Rattle.std.specs.Prelude.{◌≡◌, ◌↔◌, ◌⊎◌, ◌<◌, ◌^◌, ℕ, List, [], ◌∷◌, length, map}
+use Rattle.std.specs.Prelude.{◌≡◌, ◌↔◌, ◌⊎◌, ◌<◌, ◌^◌, ℕ, Some, List, [], ◌∷◌, length, map}
 use Rattle.ecd_keyorder.specs.declared.Order.{Order}
-use Rattle.ecd_item.specs.declared.item.Item.{Item}
-use Rattle.ecd_item.specs.declared.item.Item.TheVariants as i
-use Rattle.ecd_item.specs.declared.item.Pair.{Pair}
-use Rattle.ecd_item.specs.Encoding.{encoding}
-use Rattle.ecd_item.specs.Valid.{IsValid}
+use Rattle.ecd_item_laws.specs.declared.item.Item.{Item}
+use Rattle.ecd_item_laws.specs.declared.item.Item.TheVariants as i
+use Rattle.ecd_item_laws.specs.declared.item.Pair.{Pair}
+use Rattle.ecd_item_laws.specs.Encoding.{encoding}
+use Rattle.ecd_item_laws.specs.Valid.{IsValid}
 use Rattle.ecd_core.specs.declared.shape.Shape.{Shape}
 use Rattle.ecd_core.specs.declared.shape.Kind.TheVariants as k
 use Rattle.ecd_core.specs.declared.shape.Group.{Group}
@@ -20,13 +20,16 @@ use Rattle.ecd_core.specs.declared.value.Value.{Value}
 use Rattle.ecd_core.specs.declared.value.Value.TheVariants as v
 use Rattle.ecd_core.specs.Lists.{Each}
 use Rattle.ecd_core.specs.Maps.{EntryMeaning, AField, APick, ATable, Takes, Blocks, EntryHas, MapHas}
-use Rattle.ecd_core.specs.Owners.{field_of}
-use Rattle.ecd_core.specs.Values.{Gives, HasValue, PartGives, meaning, IsWithin, Run, run_items, run_value}
-use Rattle.ecd_core.specs.Listed.{IsAt, PartsHave, entries_mean, ways_mean}
+use Rattle.ecd_core.specs.Values.{Gives, HasValue, PartGives, key_of, meaning, IsWithin, Run, run_items, run_value}
+use Rattle.ecd_core.specs.Listed.{IsAt, PartsHave, entries_mean, field_of, ways_mean}
 
 -- A value belongs to at most one item of a shape.
 abbrev pub HasOneItem : Type 0
 HasOneItem = (order : Order) (shape : Shape) (item other : Item) (value : Value) → HasValue order shape item value → HasValue order shape other value → item ≡ other
+
+-- The key of a field is the one item that has a value under its key's shape.
+abbrev pub HasOneKey : Type 0
+HasOneKey = (order : Order) (shape : Shape) (key item : Item) → key_of shape.kind ≡ Some key → ((value : Value) × HasValue order shape item value) ↔ (item ≡ key)
 
 -- The relation over the lists of the source, kind by kind.
 abbrev pub TagGives : Type 0

@@ -4,7 +4,7 @@ pub mod Values
 pub mod Listed
 pub mod Nodes
 pub mod Walks
-pub mod Asked
-pub mod Splits
+pub mod Runs
 pub mod Owners
+pub mod Ways
 pub mod Laws

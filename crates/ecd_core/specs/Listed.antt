@@ -1,11 +1,12 @@
 -- The relation over the lists of the source, by which the crates above cite it.
 use Rattle.std.specs.Prelude.{◌≡◌, ℕ, zero, suc, List, [], ◌∷◌, ◌++◌, map}
 use Rattle.ecd_keyorder.specs.declared.Order.{Order}
-use Rattle.ecd_item.specs.declared.item.Item.{Item}
+use Rattle.ecd_item_laws.specs.declared.item.Item.{Item}
 use Rattle.ecd_core.specs.declared.shape.Part.{Part}
 use Rattle.ecd_core.specs.declared.shape.MapEntry.{MapEntry, Field', Table'}
 use Rattle.ecd_core.specs.declared.shape.MapEntry.TheVariants as m
 use Rattle.ecd_core.specs.declared.shape.MapWay.{MapWay}
+use Rattle.ecd_core.specs.declared.shape.Field.{Field}
 use Rattle.ecd_core.specs.declared.value.Value.{Value}
 use Rattle.ecd_core.specs.Maps.{FieldMeaning, EntryMeaning}
 use Rattle.ecd_core.specs.Values.{PartGives, field_meaning, meaning}
@@ -22,6 +23,10 @@ PartsHave order [] items values = (items ≡ []) × (values ≡ [])
 PartsHave order (part ∷ parts) items values =
     (front : List Item) × (back : List Item) × (one : Value) × (others : List Value) × (items ≡ front ++ back) × (values ≡ one ∷ others)
     × PartGives order part front one × PartsHave order parts back others
+
+-- What a field means.
+abbrev pub field_of : Order → Field → FieldMeaning
+field_of order field = field_meaning order field.key.kind field.cut field.lo field.value.kind
 
 -- What the entries of a map mean.
 abbrev pub entries_mean : Order → List MapEntry → List EntryMeaning

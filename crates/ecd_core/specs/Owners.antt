@@ -1,18 +1,20 @@
--- The pairs of a map given out to its entries, by numbers. A plain program tries all ways to give them out.
-use Rattle.std.specs.Prelude.{◌≡◌, ℕ, ◌+◌, ◌<◌, ◌≤◌, ◌⊎◌, ◌==◌, if◌then◌else◌, List, [], ◌∷◌, ◌++◌, length, Option}
-use Rattle.ecd_core.specs.Asked.{Asked}
+-- The pairs of a map given out to its entries, by numbers: the owner of a pair is the entry in whose list it stands.
+use Rattle.std.specs.Prelude.{◌≡◌, ◌↔◌, ℕ, ◌+◌, ◌<◌, ◌≤◌, ◌⊎◌, ◌==◌, if◌then◌else◌, List, [], ◌∷◌, length, map}
 use Rattle.ecd_keyorder.specs.declared.Order.{Order}
-use Rattle.ecd_item.specs.declared.item.Pair.{Pair}
+use Rattle.ecd_item_laws.specs.declared.item.Pair.{Pair}
+use Rattle.ecd_item_laws.specs.Encoding.{key_bytes}
+use Rattle.ecd_item_laws.specs.Valid.{Ascend, IsValid}
+use Rattle.ecd_core.specs.declared.shape.MapEntry.{MapEntry}
+use Rattle.ecd_core.specs.declared.shape.MapEntry.TheVariants as m
 use Rattle.ecd_core.specs.declared.shape.Field.{Field}
+use Rattle.ecd_core.specs.declared.shape.Pick.{Pick, out-Pick}
+use Rattle.ecd_core.specs.declared.shape.Table.{Table}
 use Rattle.ecd_core.specs.declared.value.Value.{Value}
 use Rattle.ecd_core.specs.declared.value.Value.TheVariants as v
-use Rattle.ecd_core.specs.Lists.{HasSome, EachWith}
-use Rattle.ecd_core.specs.Maps.{ItemValues, FieldMeaning, EntryMeaning, AField, APick, ATable, Stops, way_of, Takes, Blocks, FieldHas, PickHas, RowHas}
-use Rattle.ecd_core.specs.Values.{field_meaning}
-
--- What a field means.
-abbrev pub field_of : Order → Field → FieldMeaning
-field_of order field = field_meaning order field.key.kind field.cut field.lo field.value.kind
+use Rattle.ecd_core.specs.Lists.{Each, HasSome, EachWith}
+use Rattle.ecd_core.specs.Maps.{ItemValues, EntryMeaning, AField, APick, ATable, Takes, Blocks, FieldHas, PickHas, RowHas, MapHas}
+use Rattle.ecd_core.specs.Listed.{entries_mean, field_of, ways_mean}
+use Rattle.ecd_core.specs.Values.{HasValue, meaning}
 
 -- The pairs whose owner has this number.
 abbrev pub owned : ℕ → List Pair → List ℕ → List Pair
@@ -43,14 +45,27 @@ EntriesFit pairs owners number [] (value ∷ values) = ⊥
 EntriesFit pairs owners number (entry ∷ entries) [] = ⊥
 EntriesFit pairs owners number (entry ∷ entries) (value ∷ values) = EntryFits pairs entry (owned number pairs owners) value × EntriesFit pairs owners (number + 1) entries values
 
--- A field of one of the first ways, so many of them, stops the pair.
-abbrev pub WayStops : ℕ → List (List FieldMeaning) → Pair → Type 0
-WayStops count ways pair = (number : ℕ) × (number < count) × (number < length ways) × HasSome (λ field. Stops field pair) (way_of ways number)
+-- The pairs of a map have owners that fit, and the entries have the values with what they own.
+abbrev pub HasOwners : List EntryMeaning → List Pair → List Value → Type 0
+HasOwners entries pairs values = (owners : List ℕ) × EachWith (OwnerFits entries pairs) pairs owners × EntriesFit pairs owners 0 entries values
 
--- The rest of the pairs have owners with which, and with those before, the entries have the values.
-abbrev pub OwnersFit : List EntryMeaning → List Pair → List Pair → List ℕ → Option (List Value) → Type 0
-OwnersFit entries pairs rest owners o = (more : List ℕ) × EachWith (OwnerFits entries pairs) rest more × Asked o (EntriesFit pairs (owners ++ more) 0 entries)
+-- A map whose pairs have owners has the values.
+abbrev pub GivenOut : Type 0
+GivenOut = (order : Order) (entries : List MapEntry) (pairs : List Pair) (values : List Value) → Each (λ pair. IsValid order pair.key) pairs → Ascend order (map key_bytes pairs)
+    → HasOwners (entries_mean order entries) pairs values → MapHas order (entries_mean order entries) pairs values
 
--- The same where the next owner is an entry numbered from here on.
-abbrev pub SomeOwnerFits : ℕ → List EntryMeaning → List Pair → List Pair → List ℕ → Option (List Value) → Type 0
-SomeOwnerFits least entries pairs others owners o = (owner : ℕ) × (least ≤ owner) × (owner < length entries) × OwnersFit entries pairs others (owners ++ owner ∷ []) o
+-- The pairs of a map that has values have owners.
+abbrev pub OwnersExist : Type 0
+OwnersExist = (order : Order) (entries : List MapEntry) (pairs : List Pair) (values : List Value) → MapHas order (entries_mean order entries) pairs values → HasOwners (entries_mean order entries) pairs values
+
+-- What it is that an entry has a value with the pairs that it owns.
+abbrev pub FieldOwns : Type 0
+FieldOwns = (order : Order) (pairs : List Pair) (f : Field) (listed : List Pair) (value : Value) → EntryFits pairs (meaning order (m.Field f)) listed value ↔ ((listed ≡ []) × FieldHas pairs (field_of order f) value)
+
+abbrev pub PickOwns : Type 0
+PickOwns = (order : Order) (pairs : List Pair) (pick : Pick) (listed : List Pair) (value : Value) →
+    EntryFits pairs (meaning order (m.Pick pick)) listed value ↔ ((listed ≡ []) × PickHas pairs (out-Pick pick).needed (ways_mean order (out-Pick pick).ways) value)
+
+abbrev pub TableOwns : Type 0
+TableOwns = (order : Order) (pairs : List Pair) (t : Table) (listed : List Pair) (value : Value) →
+    EntryFits pairs (meaning order (m.Table t)) listed value ↔ TableFits t.lo t.hi (HasValue order t.key) (HasValue order t.value) listed value

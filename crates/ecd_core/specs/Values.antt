@@ -3,11 +3,11 @@
 use Rattle.std.specs.Prelude.{Bool, ◌≡◌, ℕ, zero, suc, ◌<◌, ◌≤◌, ◌^◌, ◌⊎◌, ◌==◌, ◌&&◌, ◌||◌, nat_lt, nat_le, if◌then◌else◌, List, [], ◌∷◌, ◌++◌, length, map, Option, Some, None}
 use Rattle.std.specs.Str.{IsUtf8, is_utf8}
 use Rattle.ecd_keyorder.specs.declared.Order.{Order}
-use Rattle.ecd_item.specs.declared.item.Item.{Item, Array' as Array-i, Map' as Map-i, Tag' as Tag-i}
-use Rattle.ecd_item.specs.declared.item.Item.TheVariants as i
-use Rattle.ecd_item.specs.declared.item.Pair.{Pair}
-use Rattle.ecd_item.specs.Encoding.{encoding}
-use Rattle.ecd_item.specs.Valid.{IsValid, IsWhole}
+use Rattle.ecd_item_laws.specs.declared.item.Item.{Item, Array' as Array-i, Map' as Map-i, Tag' as Tag-i}
+use Rattle.ecd_item_laws.specs.declared.item.Item.TheVariants as i
+use Rattle.ecd_item_laws.specs.declared.item.Pair.{Pair}
+use Rattle.ecd_item_laws.specs.Encoding.{encoding}
+use Rattle.ecd_item_laws.specs.Valid.{IsValid, IsWhole}
 use Rattle.ecd_core.specs.declared.shape.Kind.{Kind, Choice', Tag', Cbor', AnyTag', Array', Map', Row_of-Shape, end_of-Shape, more_of-Shape, Row_of-MapEntry, end_of-MapEntry, more_of-MapEntry}
 use Rattle.ecd_core.specs.declared.shape.Kind.TheVariants as k
 use Rattle.ecd_core.specs.declared.shape.Shape.{Shape}

@@ -3,13 +3,10 @@
 #![tactic(auto)]
 
 pub mod laws;
-pub mod plain;
 mod shape;
-#[cfg(test)]
-mod tests;
 mod value;
 
-pub use ecd_list::{Boxed, ByteList, List, OutOfMemory};
+pub use ecd_list::{Boxed, ByteList, List};
 pub use shape::{
     EntryList, Field, Group, Kind, MapEntry, MapWay, MapWayList, Part, PartList, Pick, Shape,
     ShapeList, Table, Way, WayList,

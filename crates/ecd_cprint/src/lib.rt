@@ -11,7 +11,7 @@ mod statements;
 
 use crate::items::print_program;
 use crate::layout::Layout;
-use ecd_cast::builder::Valid;
+use ecd_cbuild::builder::Valid;
 use ecd_list::{ByteList, OutOfMemory};
 use std::alloc::Global;
 

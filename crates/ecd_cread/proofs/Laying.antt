@@ -17,7 +17,7 @@ use Rattle.ecd_cread.specs.Scan.{blanks_len, front_len, Stands, Lexed, Ends, All
 use Rattle.ecd_cast.specs.Validity.{Fault, IsValid, IsFirstFault}
 use Rattle.ecd_cast.specs.declared.fault.CFault.{CFault}
 use Rattle.ecd_cast.specs.declared.fault.CFault.TheVariants as causes
-use Rattle.ecd_cast.proofs.Frame.{first_fault}
+use Rattle.ecd_cast.proofs.Verdicts.{first_fault}
 use Rattle.ecd_cread.specs.Answers.{Answers, Is, BeginsWell, place_or, Breaks, AnswersWith, IsAnswer}
 use Rattle.ecd_cread.specs.declared.fault.TextFault.{TextFault}
 use Rattle.ecd_cread.specs.declared.fault.TextFault.TheVariants as faults

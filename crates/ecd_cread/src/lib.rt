@@ -12,10 +12,7 @@ mod statements;
 mod token;
 mod valid;
 
-pub use ecd_cast::builder::Valid;
 pub use ecd_cast::fault::CFault;
+pub use ecd_cbuild::builder::Valid;
 pub use lex::MOST_BYTES;
 pub use valid::read_c;
-
-#[cfg(test)]
-mod tests;

@@ -10,9 +10,9 @@ ghost use Rattle.ecd_cread.specs.Answers.{AnswersWith, IsAnswer, Breaks};
 use crate::fault::TextFault;
 use crate::lex::MOST_BYTES;
 use crate::program::read_program;
-use ecd_cast::builder::Valid;
 use ecd_cast::fault::CFault;
-use ecd_cast::validate::validate;
+use ecd_cbuild::builder::Valid;
+use ecd_cjudge::validate::validate;
 use std::alloc::Global;
 
 fn answer(alloc: Global, text: &[u8]) -> Result<Valid, CFault>

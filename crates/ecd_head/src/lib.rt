@@ -11,8 +11,6 @@ ghost use Rattle.ecd_head.specs.Fault.{head_fault, head_at, placed};
 ghost use Rattle.ecd_head.specs.Steps.{argument_at, checked, judged};
 
 pub mod laws;
-#[cfg(test)]
-mod tests;
 
 use thiserror::Error;
 

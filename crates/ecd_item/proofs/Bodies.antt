@@ -2,14 +2,14 @@
 use Rattle.std.proofs.Common.{◌≡◌, ℕ, List, [], length, map, Some, None, refl, ap, ◌∙◌}
 use Rattle.std.proofs.lemmas.List.{append-nil}
 use denote.Hole.Carrier.{hidden}
-use Rattle.ecd_item.specs.declared.item.Item.{Item}
-use Rattle.ecd_item.specs.declared.item.Item.TheBlock.{hidden-the_row-Item-2, items_hidden-the_row-Item-0, items_hidden-the_row-Pair-1}
-use Rattle.ecd_item.specs.declared.item.Item.TheVariants.{Uint, Nint, Bytes, Text, Array, Map, Tag, Simple}
-use Rattle.ecd_item.specs.declared.item.Pair.{Pair}
-use Rattle.ecd_item.specs.Encoding.{encoding, encodings, joined, both}
-use Rattle.ecd_item.specs.Parts.{head_from, head_of, body_of, string_in, items_in, pairs_in, enclosed_in}
-use Rattle.ecd_item.proofs.Layers.{encodings-list, pairs-list, pair_texts}
-use Rattle.ecd_item.specs.Encoding.{pair_bytes}
+use Rattle.ecd_item_laws.specs.declared.item.Item.{Item}
+use Rattle.ecd_item_laws.specs.declared.item.Item.TheBlock.{hidden-the_row-Item-2, items_hidden-the_row-Item-0, items_hidden-the_row-Pair-1}
+use Rattle.ecd_item_laws.specs.declared.item.Item.TheVariants.{Uint, Nint, Bytes, Text, Array, Map, Tag, Simple}
+use Rattle.ecd_item_laws.specs.declared.item.Pair.{Pair}
+use Rattle.ecd_item_laws.specs.Encoding.{encoding, encodings, joined, both}
+use Rattle.ecd_item_laws.specs.Parts.{head_from, head_of, body_of, string_in, items_in, pairs_in, enclosed_in}
+use Rattle.ecd_item_laws.proofs.Layers.{encodings-list, pairs-list, pair_texts}
+use Rattle.ecd_item_laws.specs.Encoding.{pair_bytes}
 
 -- ---- heads
 

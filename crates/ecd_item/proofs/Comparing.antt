@@ -13,16 +13,16 @@ use Rattle.ecd_head.proofs.Heads.{one_head}
 use Rattle.ecd_keyorder.specs.declared.Order.{Order}
 use Rattle.ecd_keyorder.specs.declared.Order.TheVariants.{Bytewise}
 use Rattle.ecd_keyorder.proofs.Total.{equal_is_same}
-use Rattle.ecd_item.specs.declared.item.Item.{Item}
-use Rattle.ecd_item.specs.declared.item.Item.TheVariants.{Uint, Nint, Bytes, Text, Array, Map, Tag, Simple}
-use Rattle.ecd_item.specs.declared.item.Pair.{Pair}
-use Rattle.ecd_item.specs.Encoding.{encoding, pair_bytes, joined}
-use Rattle.ecd_item.specs.Valid.{IsValid, IsValidPair}
-use Rattle.ecd_item.specs.Parts.{head_of, body_of, string_in, items_in, pairs_in, enclosed_in}
+use Rattle.ecd_item_laws.specs.declared.item.Item.{Item}
+use Rattle.ecd_item_laws.specs.declared.item.Item.TheVariants.{Uint, Nint, Bytes, Text, Array, Map, Tag, Simple}
+use Rattle.ecd_item_laws.specs.declared.item.Pair.{Pair}
+use Rattle.ecd_item_laws.specs.Encoding.{encoding, pair_bytes, joined}
+use Rattle.ecd_item_laws.specs.Valid.{IsValid, IsValidPair}
+use Rattle.ecd_item_laws.specs.Parts.{head_of, body_of, string_in, items_in, pairs_in, enclosed_in}
 use Rattle.ecd_item.specs.Writing.{Emits}
-use Rattle.ecd_item.proofs.Layers.{encoding-Uint, encoding-Nint, encoding-Bytes, encoding-Text, encoding-Simple, encoding-Array, encoding-Map, encoding-Tag, valid_Array, valid_Map, valid_Tag, item_ind}
+use Rattle.ecd_item_laws.proofs.Layers.{encoding-Uint, encoding-Nint, encoding-Bytes, encoding-Text, encoding-Simple, encoding-Array, encoding-Map, encoding-Tag, valid_Array, valid_Map, valid_Tag, item_ind}
 use Rattle.ecd_item.proofs.Bodies.{head_of-Uint, head_of-Nint, head_of-Bytes, head_of-Text, head_of-Array, head_of-Map, head_of-Tag, head_of-Simple, body_of-Uint, body_of-Nint, body_of-Bytes, body_of-Text, body_of-Array, body_of-Map, body_of-Tag, body_of-Simple, string_in-Bytes, string_in-Text, items_in-Array, pairs_in-Map, enclosed_in-Tag}
-use Rattle.ecd_item.proofs.Again.{one_item}
+use Rattle.ecd_item_laws.proofs.Again.{one_item}
 use Rattle.ecd_item.proofs.Emitting.{at_place}
 use Rattle.ecd_item.proofs.Lengths.{joined-more}
 

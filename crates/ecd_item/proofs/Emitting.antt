@@ -3,15 +3,15 @@ use Rattle.std.proofs.Common.{◌≡◌, ℕ, zero, suc, ◌+◌, ◌<◌, ◌�
 use Rattle.std.specs.List.{AllByRecursion}
 use Rattle.std.proofs.lemmas.List.{length-append, take_at, drop_at, length-take, length-drop, drop-drop, take_all}
 use Rattle.ecd_head.specs.Head.{IsWritable}
-use Rattle.ecd_item.specs.declared.item.Item.{Item}
-use Rattle.ecd_item.specs.declared.item.Item.TheVariants.{Array, Map, Simple}
-use Rattle.ecd_item.specs.declared.item.Pair.{Pair}
+use Rattle.ecd_item_laws.specs.declared.item.Item.{Item}
+use Rattle.ecd_item_laws.specs.declared.item.Item.TheVariants.{Array, Map, Simple}
+use Rattle.ecd_item_laws.specs.declared.item.Pair.{Pair}
 use Rattle.ecd_keyorder.specs.declared.Order.{Order}
-use Rattle.ecd_item.specs.Encoding.{joined}
-use Rattle.ecd_item.specs.Valid.{IsValid}
+use Rattle.ecd_item_laws.specs.Encoding.{joined}
+use Rattle.ecd_item_laws.specs.Valid.{IsValid}
 use Rattle.ecd_item.specs.Writing.{Emits}
-use Rattle.ecd_item.proofs.Layers.{valid_Array, valid_Map}
-use Rattle.ecd_item.specs.Valid.{IsValidPair}
+use Rattle.ecd_item_laws.proofs.Layers.{valid_Array, valid_Map}
+use Rattle.ecd_item_laws.specs.Valid.{IsValidPair}
 use Rattle.ecd_item.proofs.Lengths.{joined-more}
 
 pub Emits-then : (old : List ℕ) (at : ℕ) (a mid : List ℕ) (k : ℕ) (b new : List ℕ) (end : ℕ) → Emits old at a mid k → Emits mid k b new end → Emits old at (a ++ b) new end

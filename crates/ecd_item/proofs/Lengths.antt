@@ -1,19 +1,16 @@
 -- Lengths, and writing one value after the other.
-use Rattle.std.proofs.Common.{◌≡◌, ℕ, ◌+◌, ◌<◌, ◌≤◌, List, [], ◌∷◌, ◌++◌, length, take, map, get_or, ap, sym, ◌∙◌, arith, append_assoc}
+use Rattle.std.proofs.Common.{◌≡◌, ℕ, ◌+◌, ◌<◌, ◌≤◌, List, ◌++◌, length, take, map, get_or, ap, ◌∙◌, arith}
 use Rattle.std.specs.Prelude.{min}
 use Rattle.std.proofs.lemmas.Bool.Decides.{nat_tests}
-use Rattle.std.proofs.lemmas.List.{length-append, append-nil, take_more, map_push}
+use Rattle.std.proofs.lemmas.List.{length-append, take_more, map_push}
 use Rattle.ecd_head.specs.Head.{head_bytes}
-use Rattle.ecd_item.specs.declared.item.Item.{Item}
-use Rattle.ecd_item.specs.declared.item.Item.TheVariants.{Bytes, Text, Array, Map, Tag}
-use Rattle.ecd_item.specs.declared.item.Pair.{Pair}
-use Rattle.ecd_item.specs.Encoding.{encoding, joined}
-use Rattle.ecd_item.proofs.Layers.{encoding-Bytes, encoding-Text, encoding-Array, encoding-Map, encoding-Tag}
-use Rattle.ecd_item.specs.Encoding.{pair_bytes}
-
-pub joined-last : (xs : List (List ℕ)) (x : List ℕ) → joined (xs ++ x ∷ []) ≡ joined xs ++ x
-joined-last [] x = append-nil x
-joined-last (y ∷ ys) x = ap (λ (t : List ℕ). y ++ t) (joined-last ys x) ∙ sym (append_assoc y (joined ys) x)
+use Rattle.ecd_item_laws.specs.declared.item.Item.{Item}
+use Rattle.ecd_item_laws.specs.declared.item.Item.TheVariants.{Bytes, Text, Array, Map, Tag}
+use Rattle.ecd_item_laws.specs.declared.item.Pair.{Pair}
+use Rattle.ecd_item_laws.specs.Encoding.{encoding, joined}
+use Rattle.ecd_item_laws.proofs.Refusing.{joined-last}
+use Rattle.ecd_item_laws.proofs.Layers.{encoding-Bytes, encoding-Text, encoding-Array, encoding-Map, encoding-Tag}
+use Rattle.ecd_item_laws.specs.Encoding.{pair_bytes}
 
 pub joined-more : {A : Type 0} (text : A → List ℕ) (xs : List A) (i : ℕ) (d : A) → i < length xs → joined (map text (take (i + 1) xs)) ≡ joined (map text (take i xs)) ++ text (get_or xs i d)
 joined-more text xs i d lt = ap (λ ys. joined (map text ys)) (take_more xs i d lt) ∙ (ap joined (map_push text (take i xs) (get_or xs i d)) ∙ joined-last (map text (take i xs)) (text (get_or xs i d)))

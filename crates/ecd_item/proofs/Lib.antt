@@ -1,13 +1,7 @@
-pub mod Layers
-pub mod Results
-pub mod Again
 pub mod Loops
-pub mod Takes
 pub mod Lengths
 pub mod Emitting
 pub mod Bodies
 pub mod Comparing
 pub mod Whole
-pub mod Refusing
-pub mod Naming
 pub mod Clauses

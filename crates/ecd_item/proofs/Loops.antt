@@ -4,18 +4,16 @@ use Rattle.std.specs.Prelude.{MatchResult, is_ok}
 use Rattle.std.specs.Str.{IsUtf8, is_utf8}
 use Rattle.std.proofs.lemmas.List.{append-nil}
 use Rattle.std.proofs.lemmas.Str.{is_utf8-from_IsUtf8, IsUtf8-from_is_utf8}
-use Rattle.ecd_item.specs.declared.fault.Fault.{Fault}
-use Rattle.ecd_item.specs.declared.fault.Cause.TheVariants.{KeyOrder}
+use Rattle.ecd_item_laws.specs.declared.fault.Fault.{Fault}
+use Rattle.ecd_item_laws.specs.declared.fault.Cause.TheVariants.{KeyOrder}
 use Rattle.ecd_keyorder.specs.declared.Order.{Order}
 use Rattle.ecd_item.specs.declared.fault.Stop.{Stop}
 use Rattle.ecd_item.specs.declared.fault.Stop.TheVariants as stop
-use Rattle.ecd_item.specs.declared.item.Item.{Item}
-use Rattle.ecd_item.specs.declared.item.Pair.{Pair}
-use Rattle.ecd_item.specs.Reading.{Reader, Taken, ◌>>=◌, taken, Fails, many, pairs, pair_of, is_above, refused}
-
--- what was read before, and what is still read
-abbrev pub with_front : {A : Type 0} → List A → Result (Taken (List A)) Fault → Result (Taken (List A)) Fault
-with_front front read = read >>= λ x. taken (front ++ x.value) x.at x.rest
+use Rattle.ecd_item_laws.specs.declared.item.Item.{Item}
+use Rattle.ecd_item_laws.specs.declared.item.Pair.{Pair}
+use Rattle.ecd_item_laws.specs.Reading.{Reader, Taken, ◌>>=◌, taken, many, pairs, pair_of, is_above, refused}
+use Rattle.ecd_item_laws.proofs.Results.{with_front}
+use Rattle.ecd_item.specs.Told.{Fails}
 
 regroup : {A : Type 0} (front : List A) (n : A) (read : Result (Taken (List A)) Fault) → with_front front (read >>= λ x. taken (n ∷ x.value) x.at x.rest) ≡ with_front (front ++ n ∷ []) read
 regroup {A} front n (Ok x) = ap (λ (ns : List A). taken ns x.at x.rest) (simp append_assoc)

@@ -11,12 +11,12 @@ use Rattle.std.proofs.lemmas.Bool.{le-ltb, lt-ltb, le-leb, leb-true}
 use Rattle.std.proofs.lemmas.Str.{is_utf8-from_IsUtf8, IsUtf8-from_is_utf8}
 use Rattle.ecd_keyorder.specs.declared.Order.{Order}
 use Rattle.ecd_keyorder.specs.Order.{IsBefore}
-use Rattle.ecd_item.specs.declared.item.Item.{Item}
-use Rattle.ecd_item.specs.declared.item.Item.TheVariants.{Uint, Nint, Bytes, Text, Array, Map, Tag, Simple}
-use Rattle.ecd_item.specs.declared.item.Pair.{Pair}
-use Rattle.ecd_item.specs.Encoding.{key_bytes}
-use Rattle.ecd_item.specs.Valid.{IsValid, IsValidPair, IsWhole, IsWholePair, Ascend, depth}
-use Rattle.ecd_item.proofs.Layers.{depth-Array, depth-Map, depth-Tag, greatest, pair_depth, valid_Array, valid_Map, valid_Tag, Array_valid, Map_valid, Tag_valid}
+use Rattle.ecd_item_laws.specs.declared.item.Item.{Item}
+use Rattle.ecd_item_laws.specs.declared.item.Item.TheVariants.{Uint, Nint, Bytes, Text, Array, Map, Tag, Simple}
+use Rattle.ecd_item_laws.specs.declared.item.Pair.{Pair}
+use Rattle.ecd_item_laws.specs.Encoding.{key_bytes}
+use Rattle.ecd_item_laws.specs.Valid.{IsValid, IsValidPair, IsWhole, IsWholePair, Ascend, depth}
+use Rattle.ecd_item_laws.proofs.Layers.{depth-Array, depth-Map, depth-Tag, greatest, pair_depth, valid_Array, valid_Map, valid_Tag, Array_valid, Map_valid, Tag_valid}
 use Rattle.ecd_item.proofs.Emitting.{at_place}
 
 abbrev pub Means : Bool → Type 0 → Type 0

@@ -1,7 +1,2 @@
-pub mod Encoding
-pub mod Valid
-pub mod FirstFault
-pub mod Reading
+pub mod Told
 pub mod Writing
-pub mod Parts
-pub mod Laws

@@ -5,13 +5,13 @@ ghost use Rattle.std.specs.List.{AllByRecursion};
 ghost use Rattle.ecd_head.specs.Head.{head_bytes, IsWritable};
 ghost use Rattle.ecd_keyorder.specs.Order.{comparison};
 ghost use Rattle.ecd_keyorder.specs.declared.Order.TheVariants.{Bytewise};
-ghost use Rattle.ecd_item.specs.Encoding.{encoding, pair_bytes, joined};
-ghost use Rattle.ecd_item.specs.Valid.{IsValid, IsValidPair};
+ghost use Rattle.ecd_item_laws.specs.Encoding.{encoding, pair_bytes, joined};
+ghost use Rattle.ecd_item_laws.specs.Valid.{IsValid, IsValidPair};
 
-use crate::item::{Item, Pair};
 use crate::parts::{enclosed_by, head_of, items_of, pairs_of, string_of};
 use crate::write::emit_head;
 use ecd_head::Head;
+use ecd_item_laws::{Item, Pair};
 use ecd_keyorder::{Order, compare};
 use std::cmp::Ordering;
 

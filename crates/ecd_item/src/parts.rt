@@ -2,10 +2,10 @@
 
 ghost use Rattle.std.specs.Prelude.{◌≡◌};
 ghost use Rattle.std.specs.Option.{option_copied};
-ghost use Rattle.ecd_item.specs.Parts.{head_of as head_meant, string_in, items_in, pairs_in, enclosed_in};
+ghost use Rattle.ecd_item_laws.specs.Parts.{head_of as head_meant, string_in, items_in, pairs_in, enclosed_in};
 
-use crate::item::{Item, Pair};
 use ecd_head::Head;
+use ecd_item_laws::{Item, Pair};
 
 /// The head of the item's encoding.
 #[tactic(auto, using(crate::proofs::Bodies::heads))]

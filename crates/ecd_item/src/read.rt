@@ -6,17 +6,18 @@ ghost use Rattle.std.specs.Str.{is_utf8};
 ghost use Rattle.ecd_head.specs.Fault.{head_at};
 ghost use Rattle.ecd_head.specs.Place.{StandsAt};
 ghost use Rattle.ecd_keyorder.specs.declared.Order.TheVariants.{Bytewise};
-ghost use Rattle.ecd_item.specs.Encoding.{encoding};
-ghost use Rattle.ecd_item.specs.Valid.{IsWhole};
-ghost use Rattle.ecd_item.specs.declared.fault.Cause.{Cause};
+ghost use Rattle.ecd_item_laws.specs.Encoding.{encoding};
+ghost use Rattle.ecd_item_laws.specs.Valid.{IsWhole};
+ghost use Rattle.ecd_item_laws.specs.declared.fault.Cause.{Cause};
 ghost use Rattle.ecd_item.specs.declared.fault.ItemFault.TheVariants as ItemFault;
-ghost use Rattle.ecd_item.specs.FirstFault.{Answers, IsFirstFault, TellsFirstFault, number_of};
-ghost use Rattle.ecd_item.specs.declared.item.Item.{Item};
-ghost use Rattle.ecd_item.specs.Reading.{Gives, seen, headed, string_at, text_at, many, pairs, item_at, inner_of, layer, behind, parts, is_above, cause_of as cause_meant};
+ghost use Rattle.ecd_item_laws.specs.FirstFault.{IsFirstFault, number_of};
+ghost use Rattle.ecd_item_laws.specs.declared.item.Item.{Item};
+ghost use Rattle.ecd_item.specs.Told.{Answers, Gives, TellsFirstFault, seen};
+ghost use Rattle.ecd_item_laws.specs.Reading.{headed, string_at, text_at, many, pairs, item_at, inner_of, layer, behind, parts, is_above, cause_of as cause_meant};
 
-use crate::fault::{Cause, Fault, ItemFault, Stop, told};
-use crate::item::{Item, Pair};
+use crate::fault::{ItemFault, Stop, told};
 use ecd_head::{Head, HeadFault, read_head};
+use ecd_item_laws::{Cause, Fault, Item, Pair};
 use ecd_keyorder::{Order, compare};
 use ecd_list::{Boxed, ByteList, List};
 use std::alloc::Global;
@@ -108,7 +109,7 @@ fn text_of(
 }
 
 #[cycle(reading)]
-#[tactic(auto, unfolding(crate::specs::Reading::item_at, crate::specs::Reading::layer, crate::specs::Reading::inner_of))]
+#[tactic(auto, unfolding(ecd_item_laws::specs::Reading::item_at, ecd_item_laws::specs::Reading::layer, ecd_item_laws::specs::Reading::inner_of))]
 fn item_of(alloc: Global, bytes: &[u8], at: usize, depth: u8) -> Result<(Item, usize), Stop>
     requires { at ≤ length bytes.now }
     ensures gives { Gives (seen bytes.now) result (item_at Bytewise depth at (drop at bytes.now)) }
@@ -121,7 +122,7 @@ fn item_of(alloc: Global, bytes: &[u8], at: usize, depth: u8) -> Result<(Item, u
 
 /// What stands behind a head.
 #[cycle(reading)]
-#[tactic(auto, unfolding(crate::specs::Reading::behind))]
+#[tactic(auto, unfolding(ecd_item_laws::specs::Reading::behind))]
 fn behind_of(
     alloc: Global,
     bytes: &[u8],
@@ -153,7 +154,7 @@ fn behind_of(
 }
 
 #[cycle(reading)]
-#[tactic(auto, unfolding(crate::specs::Reading::parts, crate::specs::Reading::inner_of))]
+#[tactic(auto, unfolding(ecd_item_laws::specs::Reading::parts, ecd_item_laws::specs::Reading::inner_of))]
 fn parts_of(
     alloc: Global,
     bytes: &[u8],

@@ -4,12 +4,12 @@ ghost use Rattle.std.specs.Prelude.{◌≡◌, ◌<◌, ◌≤◌, ◌⊎◌, �
 ghost use Rattle.std.specs.List.{AllByRecursion};
 ghost use Rattle.std.specs.Str.{IsUtf8};
 ghost use Rattle.ecd_keyorder.specs.declared.Order.TheVariants.{Bytewise};
-ghost use Rattle.ecd_item.specs.Encoding.{key_bytes};
-ghost use Rattle.ecd_item.specs.Valid.{Ascend, IsValidPair, IsWhole, IsWholePair};
+ghost use Rattle.ecd_item_laws.specs.Encoding.{key_bytes};
+ghost use Rattle.ecd_item_laws.specs.Valid.{Ascend, IsValidPair, IsWhole, IsWholePair};
 
 use crate::compare::compare_encodings;
-use crate::item::{Item, Pair};
 use crate::read::is_text;
+use ecd_item_laws::{Item, Pair};
 
 /// Whether the item has an encoding and nests no deeper than `depth`: its texts are UTF-8, the keys of its maps ascend strictly, and its
 /// simple values are in range (RFC 8949, sections 3.1, 3.3, 4.2.1 and 5.6). It takes no memory.

@@ -4,12 +4,12 @@ ghost use Rattle.std.specs.Prelude.{◌≡◌, ℕ, ◌+◌, ◌-◌, ◌<◌, �
 ghost use Rattle.ecd_head.specs.Head.{head_bytes, IsWritable};
 ghost use Rattle.ecd_head.specs.Place.{WritesAt};
 ghost use Rattle.ecd_keyorder.specs.declared.Order.TheVariants.{Bytewise};
-ghost use Rattle.ecd_item.specs.Encoding.{encoding, encoded_length, pair_bytes, joined};
-ghost use Rattle.ecd_item.specs.Valid.{IsValid, IsWhole, depth as depth_of};
+ghost use Rattle.ecd_item_laws.specs.Encoding.{encoding, encoded_length, pair_bytes, joined};
+ghost use Rattle.ecd_item_laws.specs.Valid.{IsValid, IsWhole, depth as depth_of};
 ghost use Rattle.ecd_item.specs.Writing.{Emits};
 
-use crate::item::{Item, Pair};
 use ecd_head::{Head, NoRoom, put, write_head};
+use ecd_item_laws::{Item, Pair};
 
 /// The length that stands for every longer one: 2^63.
 const LIMIT: u64 = 0x8000_0000_0000_0000;
@@ -60,7 +60,7 @@ pub fn length_of(item: &Item) -> u64
 
 /// The length of an item's encoding, or the limit.
 #[cycle(measuring)]
-#[tactic(auto, using(crate::proofs::Layers::layers))]
+#[tactic(auto, using(ecd_item_laws::proofs::Layers::layers))]
 fn measure(item: &Item) -> u64
     ensures { result ≡ min (encoded_length item.now) (2 ^ 63) }
 {
@@ -132,7 +132,7 @@ fn emit_string(major: u8, bytes: &[u8], into: &mut [u8], at: usize) -> usize
 
 /// Writes an item for which there is room.
 #[cycle(writing)]
-#[tactic(auto, using(crate::proofs::Layers::layers))]
+#[tactic(auto, using(ecd_item_laws::proofs::Layers::layers))]
 fn emit(item: &Item, into: &mut [u8], at: usize) -> usize
     requires valid { IsValid Bytewise item.now }
     requires room { at + length (encoding item.now) ≤ length into.old }

@@ -6,7 +6,6 @@ mod names;
 mod refusal;
 mod schema;
 
-pub use ecd_lex::MOST_BYTES;
 pub use ecd_names::Names;
 pub use names::judge;
 pub use refusal::Refusal;

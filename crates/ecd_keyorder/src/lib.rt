@@ -5,8 +5,6 @@ ghost use Rattle.std.specs.Prelude.{◌≡◌};
 ghost use Rattle.ecd_keyorder.specs.Order.{comparison};
 
 pub mod laws;
-#[cfg(test)]
-mod tests;
 
 use std::cmp::Ordering;
 

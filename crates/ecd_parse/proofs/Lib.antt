@@ -1,4 +1,5 @@
 pub mod Tokens
 pub mod Loops
+pub mod Parts
 pub mod Counts
 pub mod Verdicts

@@ -1,7 +1,7 @@
 -- What the functions of the parser give, against reading.
 use Rattle.std.specs.Prelude.{◌≡◌, ℕ, List, [], drop, Option, Some, None, Result, Ok, Err}
 use Rattle.ecd_syntax.specs.Marks.{Mark}
-use Rattle.ecd_syntax.specs.Reading.{Taken, Halted, Stuck}
+use Rattle.ecd_syntax.specs.Reading.{Taken, Halted, Stuck, Reader}
 use Rattle.ecd_parse.specs.declared.cursor.Halt.{Halt}
 use Rattle.ecd_parse.specs.declared.cursor.Halt.TheVariants as halts
 
@@ -34,3 +34,14 @@ Passes ms (Err e) read = Fails ms e read
 abbrev pub GivesAll : {A : Type 0} → List Mark → Result A Halt → Result (Taken A) Halted → Type 0
 GivesAll ms (Ok x) read = read ≡ Ok record { value = x; rest = [] }
 GivesAll ms (Err e) read = Fails ms e read
+
+-- what is returned leads to the rest of what reading gives, unless memory runs out
+abbrev pub Leads : {A B : Type 0} → List Mark → Result (A × ℕ) Halt → (A → Reader B) → Result (Taken B) Halted → Type 0
+Leads ms (Ok x) next read = read ≡ next x.0 (drop x.1 ms)
+Leads ms (Err e) next read = Fails ms e read
+
+-- the same, or reading gives the other
+abbrev pub LeadsOr : {A B : Type 0} → List Mark → Result (Option (A × ℕ)) Halt → (A → Reader B) → Result (Taken B) Halted → Result (Taken B) Halted → Type 0
+LeadsOr ms (Ok None) next other read = read ≡ other
+LeadsOr ms (Ok (Some x)) next other read = read ≡ next x.0 (drop x.1 ms)
+LeadsOr ms (Err e) next other read = Fails ms e read

@@ -4,6 +4,8 @@
 mod brackets;
 mod cursor;
 mod fault;
+mod key;
+mod opening;
 mod read;
 mod rules;
 mod schema;
@@ -11,6 +13,3 @@ mod schema;
 pub use ecd_syntax::{TokenList, Tree};
 pub use fault::ParseFault;
 pub use schema::parse;
-
-#[cfg(test)]
-mod tests;

@@ -6,7 +6,7 @@ ghost use Rattle.ecd_cast.specs.Validity.{IsValid};
 ghost use Rattle.ecd_compile.specs.Reads.{HasInterface, ReadsByte};
 ghost use Rattle.ecd_reader.specs.Takes.{Takes};
 
-use ecd_cast::builder::Valid;
+use ecd_cbuild::builder::Valid;
 use ecd_ceval::{Arg, Block, BlockList, Machine};
 pub use ecd_list::OutOfMemory;
 use std::alloc::Global;

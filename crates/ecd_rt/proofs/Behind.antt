@@ -6,12 +6,12 @@ use Rattle.std.proofs.lemmas.Bool.{lt-ltb, le-ltb}
 use Rattle.std.proofs.lemmas.Bool.Decides.{nat_tests}
 use Rattle.ecd_head.specs.declared.Head.{Head}
 use Rattle.ecd_keyorder.specs.declared.Order.TheVariants.{Bytewise}
-use Rattle.ecd_item.specs.declared.item.Item.{Item}
-use Rattle.ecd_item.specs.declared.item.Item.TheVariants.{Array, Map, Tag}
-use Rattle.ecd_item.specs.Parts.{head_from}
-use Rattle.ecd_item.specs.Reading.{Reader, behind, parts, many, pairs}
-use Rattle.ecd_fixed.specs.Windows.{IsBytes}
-use Rattle.ecd_fixed.specs.Extents.{own_end_of, least_behind, string_behind}
+use Rattle.ecd_item_laws.specs.declared.item.Item.{Item}
+use Rattle.ecd_item_laws.specs.declared.item.Item.TheVariants.{Array, Map, Tag}
+use Rattle.ecd_item_laws.specs.Parts.{head_from}
+use Rattle.ecd_item_laws.specs.Reading.{Reader, behind, parts, many, pairs}
+use Rattle.ecd_emit.specs.Windows.{IsBytes}
+use Rattle.ecd_fixed_heads.specs.Extents.{own_end_of, least_behind, string_behind}
 use Rattle.ecd_rt.proofs.Readers.{place_of, place_made, Advances, few_many, few_pairs}
 use Rattle.ecd_rt.specs.Meanings.{text_place}
 

@@ -14,16 +14,16 @@ use Rattle.ecd_cast.specs.Meaning.{calls_of}
 use Rattle.ecd_cast.specs.Validity.{IsValidAfter}
 use Rattle.ecd_cast.specs.Spelling.{IsSpelledItem, IsName}
 use Rattle.ecd_keyorder.specs.declared.Order.TheVariants.{Bytewise}
-use Rattle.ecd_item.specs.Reading.{item_at, many, pairs}
-use Rattle.ecd_fixed.specs.Meanings.{HeadArgument}
-use Rattle.ecd_fixed.specs.Heads.{head_argument}
-use Rattle.ecd_fixed.specs.Extents.{own_end, OwnEnd}
-use Rattle.ecd_fixed.specs.Utf8.{utf8_valid, ChecksUtf8}
-use Rattle.ecd_fixed.specs.Compare.{compare_bytes, ComparesBytes}
-use Rattle.ecd_fixed.specs.Standing.{AreNew, IsAmong}
-use Rattle.ecd_fixed.proofs.Kept.{callee_kept, among_kept}
-use Rattle.ecd_fixed.proofs.Valid.{IsFree}
-use Rattle.ecd_fixed.proofs.Placed.{placed_last, kept, free_behind, named_behind, new_behind}
+use Rattle.ecd_item_laws.specs.Reading.{item_at, many, pairs}
+use Rattle.ecd_fixed_heads.specs.Meanings.{HeadArgument}
+use Rattle.ecd_fixed_heads.specs.Heads.{head_argument}
+use Rattle.ecd_fixed_heads.specs.Extents.{own_end, OwnEnd}
+use Rattle.ecd_fixed_bytes.specs.Utf8.{utf8_valid, ChecksUtf8}
+use Rattle.ecd_fixed_bytes.specs.Compare.{compare_bytes, ComparesBytes}
+use Rattle.ecd_emit.specs.Among.{AreNew, IsAmong}
+use Rattle.ecd_emit.proofs.Kept.{callee_kept, among_kept}
+use Rattle.ecd_emit.specs.Among.{IsFree}
+use Rattle.ecd_emit.proofs.Placed.{placed_last, kept, free_behind, named_behind, new_behind}
 use Rattle.ecd_rt.specs.Names.{any_name, items_name, pairs_name}
 use Rattle.ecd_rt.specs.Trees.{text_end, items_end, pairs_end, any_end, level_functions, level_names, any_functions, any_names}
 use Rattle.ecd_rt.specs.Standing.{FrontIsThere, FrontMeans, LevelIsThere}

@@ -4,15 +4,15 @@ use Rattle.std.specs.Prelude.{nat_eq}
 use Rattle.std.proofs.lemmas.Bool.{eqb-true, eqb-false}
 use Rattle.ecd_cast.specs.declared.tree.CItem.{CItem}
 use Rattle.ecd_cast.specs.Meaning.{calls_of}
-use Rattle.ecd_cast.specs.Ends.{Does}
+use Rattle.ecd_calculus.specs.Ends.{Does}
 use Rattle.ecd_keyorder.specs.declared.Order.TheVariants.{Bytewise}
-use Rattle.ecd_item.specs.Reading.{item_at}
-use Rattle.ecd_fixed.specs.Windows.{Callee, IsEnd, asked}
-use Rattle.ecd_fixed.specs.Heads.{head_argument}
-use Rattle.ecd_fixed.specs.Extents.{own_end}
-use Rattle.ecd_fixed.specs.Compare.{compare_bytes}
-use Rattle.ecd_fixed.specs.Standing.{AreNew, IsAmong}
-use Rattle.ecd_fixed.proofs.Kept.{callee_kept, among_kept}
+use Rattle.ecd_item_laws.specs.Reading.{item_at}
+use Rattle.ecd_emit.specs.Windows.{Callee, IsEnd, asked}
+use Rattle.ecd_fixed_heads.specs.Heads.{head_argument}
+use Rattle.ecd_fixed_heads.specs.Extents.{own_end}
+use Rattle.ecd_fixed_bytes.specs.Compare.{compare_bytes}
+use Rattle.ecd_emit.specs.Among.{AreNew, IsAmong}
+use Rattle.ecd_emit.proofs.Kept.{callee_kept, among_kept}
 use Rattle.ecd_rt.specs.Names.{any_name}
 use Rattle.ecd_rt.specs.Trees.{text_end, any_end, level_functions, level_names, any_functions, any_names}
 use Rattle.ecd_rt.specs.Meanings.{IsAny, WholeStands, paid_by}

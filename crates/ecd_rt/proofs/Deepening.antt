@@ -12,24 +12,24 @@ use Rattle.ecd_cast.specs.declared.value.Value.TheVariants.{Number as Num, Bytes
 use Rattle.ecd_cast.specs.Memory.{Memory}
 use Rattle.ecd_cast.specs.Expressions.{Scopes}
 use Rattle.ecd_cast.specs.Meaning.{Calls, called}
-use Rattle.ecd_cast.specs.Ends.{Answers}
-use Rattle.ecd_cast.specs.Rules.{Works}
-use Rattle.ecd_cast.proofs.Rules.{return_rule, let_rule, call_rule, if_rule, guard_rule, called_rule, works_within}
+use Rattle.ecd_calculus.specs.Ends.{Answers}
+use Rattle.ecd_calculus.specs.Rules.{Works}
+use Rattle.ecd_calculus.proofs.Rules.{return_rule, let_rule, call_rule, if_rule, guard_rule, called_rule, works_within}
 use Rattle.ecd_head.specs.declared.HeadFault.{HeadFault}
 use Rattle.ecd_head.specs.declared.Head.{Head}
 use Rattle.ecd_head.specs.Fault.{head_at}
 use Rattle.ecd_head.proofs.Heads.{IsBytes-drop}
 use Rattle.ecd_keyorder.specs.declared.Order.TheVariants.{Bytewise}
-use Rattle.ecd_item.specs.declared.item.Item.{Item}
-use Rattle.ecd_item.specs.Reading.{Reader, item_at, inner_of, layer, behind, parts, many, pairs}
-use Rattle.ecd_item.proofs.Again.{item_at-layer}
-use Rattle.ecd_item.specs.Parts.{head_from}
-use Rattle.ecd_fixed.specs.Variables as v
-use Rattle.ecd_fixed.specs.Windows.{IsBytes, Window, asked}
-use Rattle.ecd_fixed.specs.Meanings.{HeadArgument}
-use Rattle.ecd_fixed.specs.Extents.{own_end_of, least_behind, string_behind, OwnEnd}
-use Rattle.ecd_fixed.proofs.Numbers.{long, one_byte}
-use Rattle.ecd_fixed.proofs.Arguments.{read_there}
+use Rattle.ecd_item_laws.specs.declared.item.Item.{Item}
+use Rattle.ecd_item_laws.specs.Reading.{Reader, item_at, inner_of, layer, behind, parts, many, pairs}
+use Rattle.ecd_item_laws.proofs.Again.{item_at-layer}
+use Rattle.ecd_item_laws.specs.Parts.{head_from}
+use Rattle.ecd_emit.specs.Variables as v
+use Rattle.ecd_emit.specs.Windows.{IsBytes, Window, asked}
+use Rattle.ecd_fixed_heads.specs.Meanings.{HeadArgument}
+use Rattle.ecd_fixed_heads.specs.Extents.{own_end_of, least_behind, string_behind, OwnEnd}
+use Rattle.ecd_emit.proofs.Windows.{long, one_byte}
+use Rattle.ecd_fixed_heads.proofs.Arguments.{read_there}
 use Rattle.ecd_rt.specs.Names.{any_name, items_name, pairs_name}
 use Rattle.ecd_rt.specs.Trees.{any_front, any_behind, any_end}
 use Rattle.ecd_rt.specs.Meanings.{text_place, TextEnd, paid_by}

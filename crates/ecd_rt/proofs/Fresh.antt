@@ -6,14 +6,14 @@ use Rattle.ecd_cast.specs.declared.tree.CItem.{CItem}
 use Rattle.ecd_cast.specs.declared.tree.CItem.TheVariants.{Struct as AStruct, Function as AFunction}
 use Rattle.ecd_cast.specs.Memory.{Name}
 use Rattle.ecd_cast.specs.Kept.{IsNew}
-use Rattle.ecd_fixed.specs.Heads.{load_be16, load_be32, load_be64, head_size, head_least, head_argument, head_end, head_within, head_functions, head_names}
-use Rattle.ecd_fixed.specs.Extents.{own_end, items_inside, item_end, extent_functions, extent_names}
-use Rattle.ecd_fixed.specs.Utf8.{utf8_begin, utf8_next, utf8_valid, utf8_functions, utf8_names}
-use Rattle.ecd_fixed.specs.Compare.{compare_bytes}
-use Rattle.ecd_fixed.specs.HeadWriter.{head_length, store_be16, store_be32, store_be64, put_head, put_functions, put_names}
-use Rattle.ecd_fixed.specs.Copier.{copy_bytes}
-use Rattle.ecd_fixed.specs.Standing.{AreNew}
-use Rattle.ecd_fixed.proofs.Placed.{new_behind}
+use Rattle.ecd_fixed_heads.specs.Heads.{load_be16, load_be32, load_be64, head_size, head_least, head_argument, head_end, head_within, head_functions, head_names}
+use Rattle.ecd_fixed_heads.specs.Extents.{own_end, items_inside, item_end, extent_functions, extent_names}
+use Rattle.ecd_fixed_bytes.specs.Utf8.{utf8_begin, utf8_next, utf8_valid, utf8_functions, utf8_names}
+use Rattle.ecd_fixed_bytes.specs.Compare.{compare_bytes}
+use Rattle.ecd_fixed_bytes.specs.HeadWriter.{head_length, store_be16, store_be32, store_be64, put_head, put_functions, put_names}
+use Rattle.ecd_fixed_bytes.specs.Copier.{copy_bytes}
+use Rattle.ecd_emit.specs.Among.{AreNew}
+use Rattle.ecd_emit.proofs.Placed.{new_behind}
 use Rattle.ecd_rt.specs.Names.{any_name, items_name, pairs_name}
 use Rattle.ecd_rt.specs.Trees.{text_end, items_end, pairs_end, any_end, level_functions, level_names, any_functions, any_names}
 use Rattle.ecd_rt.specs.Runtime.{front_functions, front_names, writing_functions, writing_names}

@@ -5,17 +5,21 @@ use Rattle.ecd_cast.specs.declared.tree.CItem.{CItem}
 use Rattle.ecd_cast.specs.declared.tree.CItem.TheVariants.{Function as AFunction}
 use Rattle.ecd_cast.specs.Kept.{IsNew}
 use Rattle.ecd_cast.specs.Meaning.{calls_of}
-use Rattle.ecd_fixed.specs.Heads.{head_functions, head_names}
-use Rattle.ecd_fixed.specs.Extents.{extent_functions, extent_names}
-use Rattle.ecd_fixed.specs.ExtentsStanding.{ExtentsAreThere, ExtentsMean}
-use Rattle.ecd_fixed.specs.Utf8.{utf8_functions, utf8_names}
-use Rattle.ecd_fixed.specs.Compare.{compare_bytes, ComparesBytes}
-use Rattle.ecd_fixed.specs.HeadWriter.{put_functions, put_names}
-use Rattle.ecd_fixed.specs.Copier.{copy_bytes, CopiesBytes}
-use Rattle.ecd_fixed.specs.Standing.{AreNew, IsAmong, HeadsAreThere, HeadsMean, Utf8IsThere, Utf8Means, HeadWriterIsThere, HeadWriterMeans}
-use Rattle.ecd_fixed.proofs.Kept.{callee_kept, among_kept, heads_are_kept, utf8_is_kept, head_writer_is_kept}
-use Rattle.ecd_fixed.proofs.Extended.{extents_are_kept}
-use Rattle.ecd_fixed.proofs.Placed.{new_behind}
+use Rattle.ecd_fixed_heads.specs.Heads.{head_functions, head_names}
+use Rattle.ecd_fixed_heads.specs.Extents.{extent_functions, extent_names}
+use Rattle.ecd_fixed_heads.specs.ExtentsStanding.{ExtentsAreThere, ExtentsMean}
+use Rattle.ecd_fixed_bytes.specs.Utf8.{utf8_functions, utf8_names}
+use Rattle.ecd_fixed_bytes.specs.Compare.{compare_bytes, ComparesBytes}
+use Rattle.ecd_fixed_bytes.specs.HeadWriter.{put_functions, put_names}
+use Rattle.ecd_fixed_bytes.specs.Copier.{copy_bytes, CopiesBytes}
+use Rattle.ecd_emit.specs.Among.{AreNew, IsAmong}
+use Rattle.ecd_fixed_heads.specs.Standing.{HeadsAreThere, HeadsMean}
+use Rattle.ecd_fixed_bytes.specs.Standing.{Utf8IsThere, Utf8Means, HeadWriterIsThere, HeadWriterMeans}
+use Rattle.ecd_emit.proofs.Kept.{callee_kept, among_kept}
+use Rattle.ecd_fixed_heads.proofs.Kept.{heads_are_kept}
+use Rattle.ecd_fixed_bytes.proofs.Kept.{utf8_is_kept, head_writer_is_kept}
+use Rattle.ecd_fixed_heads.proofs.Extended.{extents_are_kept}
+use Rattle.ecd_emit.proofs.Placed.{new_behind}
 use Rattle.ecd_rt.specs.Names.{any_name}
 use Rattle.ecd_rt.specs.Trees.{text_end, any_end, any_functions, any_names, level_names}
 use Rattle.ecd_rt.specs.Meanings.{TextEnd, IsAny}

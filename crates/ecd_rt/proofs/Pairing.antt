@@ -14,18 +14,18 @@ use Rattle.ecd_cast.specs.declared.value.Value.TheVariants.{Number as Num, Bytes
 use Rattle.ecd_cast.specs.Memory.{Memory}
 use Rattle.ecd_cast.specs.Expressions.{Scopes, Frame, modulus}
 use Rattle.ecd_cast.specs.Meaning.{Run, Calls, called, leave}
-use Rattle.ecd_cast.specs.Ends.{With, Answers}
-use Rattle.ecd_cast.specs.Rules.{Works, Goes}
-use Rattle.ecd_cast.proofs.Calculus.{ends_within}
-use Rattle.ecd_cast.proofs.Rules.{return_rule, let_rule, let_goes, assign_goes, call_goes, assign_call_goes, guard_goes, nil_goes, called_rule, works_within}
+use Rattle.ecd_calculus.specs.Ends.{With, Answers}
+use Rattle.ecd_calculus.specs.Rules.{Works, Goes}
+use Rattle.ecd_calculus.proofs.Calculus.{ends_within}
+use Rattle.ecd_calculus.proofs.Rules.{return_rule, let_rule, let_goes, assign_goes, call_goes, assign_call_goes, guard_goes, nil_goes, called_rule, works_within}
 use Rattle.ecd_keyorder.specs.declared.Order.TheVariants.{Bytewise}
-use Rattle.ecd_item.specs.declared.fault.Fault.{Fault}
-use Rattle.ecd_item.specs.declared.item.Item.{Item}
-use Rattle.ecd_item.specs.Reading.{Reader, Taken, pairs, is_above, is_less}
-use Rattle.ecd_fixed.specs.Variables as v
-use Rattle.ecd_fixed.specs.Windows.{Window}
-use Rattle.ecd_fixed.specs.Compare.{ComparesBytes, order_number}
-use Rattle.ecd_fixed.proofs.Numbers.{long}
+use Rattle.ecd_item_laws.specs.declared.fault.Fault.{Fault}
+use Rattle.ecd_item_laws.specs.declared.item.Item.{Item}
+use Rattle.ecd_item_laws.specs.Reading.{Reader, Taken, pairs, is_above, is_less}
+use Rattle.ecd_emit.specs.Variables as v
+use Rattle.ecd_emit.specs.Windows.{Window}
+use Rattle.ecd_fixed_bytes.specs.Compare.{ComparesBytes, order_number}
+use Rattle.ecd_emit.proofs.Windows.{long}
 use Rattle.ecd_rt.specs.Names.{any_name}
 use Rattle.ecd_rt.specs.Variables as w
 use Rattle.ecd_rt.specs.Trees.{pairs_end, key_turn, value_turn}

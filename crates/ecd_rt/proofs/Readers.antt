@@ -4,17 +4,17 @@ use Rattle.std.specs.Prelude.{◌≢◌}
 use Rattle.std.proofs.lemmas.List.{drop_at, drop-drop}
 use Rattle.ecd_keyorder.specs.declared.Order.{Order}
 use Rattle.ecd_keyorder.specs.declared.Order.TheVariants.{Bytewise}
-use Rattle.ecd_item.specs.declared.fault.Fault.{Fault}
-use Rattle.ecd_item.specs.declared.item.Item.{Item}
-use Rattle.ecd_item.specs.declared.item.Pair.{Pair}
-use Rattle.ecd_item.specs.Encoding.{encoding}
-use Rattle.ecd_item.specs.Reading.{Reader, Taken, item_at, many, pairs, made, is_above}
-use Rattle.ecd_item.proofs.Again.{item_again}
-use Rattle.ecd_item.proofs.Takes.{item_takes}
+use Rattle.ecd_item_laws.specs.declared.fault.Fault.{Fault}
+use Rattle.ecd_item_laws.specs.declared.item.Item.{Item}
+use Rattle.ecd_item_laws.specs.declared.item.Pair.{Pair}
+use Rattle.ecd_item_laws.specs.Encoding.{encoding}
+use Rattle.ecd_item_laws.specs.Reading.{Reader, Taken, item_at, many, pairs, made, is_above}
+use Rattle.ecd_item_laws.proofs.Again.{item_again}
+use Rattle.ecd_item_laws.proofs.Takes.{item_takes}
 use Rattle.ecd_head.proofs.Heads.{IsBytes-drop}
-use Rattle.ecd_fixed.specs.Windows.{IsBytes, IsEnd}
-use Rattle.ecd_fixed.proofs.Framing.{valid_framed}
-use Rattle.ecd_fixed.proofs.Owing.{item_long}
+use Rattle.ecd_emit.specs.Windows.{IsBytes, IsEnd}
+use Rattle.ecd_fixed_heads.proofs.Framing.{valid_framed}
+use Rattle.ecd_fixed_heads.proofs.Owing.{item_long}
 use Rattle.ecd_rt.specs.Meanings.{WholeStands}
 
 -- the place behind what was read, or 0

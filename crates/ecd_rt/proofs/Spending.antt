@@ -6,9 +6,9 @@ use Rattle.ecd_cast.specs.declared.value.Value.TheVariants.{Number as Num}
 use Rattle.ecd_cast.specs.Memory.{Name, Memory}
 use Rattle.ecd_cast.specs.Expressions.{Scopes, lookup, given, Gives}
 use Rattle.ecd_cast.specs.Meaning.{Run, Calls, Place, Code, block, does, shifted, count_of, turns, leave}
-use Rattle.ecd_cast.specs.Ends.{Ends, Behind, With, Does}
-use Rattle.ecd_cast.specs.Rules.{Works, Goes}
-use Rattle.ecd_cast.proofs.Calculus.{block_falls, block_returns, ends_step, ends_then, returns_then, ends_within, fall_ends}
+use Rattle.ecd_calculus.specs.Ends.{Ends, Behind, With, Does}
+use Rattle.ecd_calculus.specs.Rules.{Works, Goes}
+use Rattle.ecd_calculus.proofs.Calculus.{block_falls, block_returns, ends_step, ends_then, returns_then, ends_within, fall_ends}
 use Rattle.ecd_cast.proofs.Layers.{does-For}
 
 -- A turn that may take so many steps, where others are spent before it. It returns, and all steps so far are within a bound, or the next turn may begin.

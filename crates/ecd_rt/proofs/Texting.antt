@@ -8,13 +8,13 @@ use Rattle.ecd_cast.specs.declared.value.Value.TheVariants.{Number as Num, Bytes
 use Rattle.ecd_cast.specs.Memory.{Memory}
 use Rattle.ecd_cast.specs.Expressions.{modulus}
 use Rattle.ecd_cast.specs.Meaning.{Calls, called}
-use Rattle.ecd_cast.specs.Ends.{Answers}
-use Rattle.ecd_cast.proofs.Rules.{return_rule, call_rule, guard_rule, called_rule, works_within}
+use Rattle.ecd_calculus.specs.Ends.{Answers}
+use Rattle.ecd_calculus.proofs.Rules.{return_rule, call_rule, guard_rule, called_rule, works_within}
 use Rattle.ecd_head.specs.declared.Head.{Head}
 use Rattle.ecd_head.specs.Fault.{head_at}
-use Rattle.ecd_fixed.specs.Windows.{Window}
-use Rattle.ecd_fixed.specs.Meanings.{HeadArgument}
-use Rattle.ecd_fixed.specs.Utf8.{ChecksUtf8, one_where}
+use Rattle.ecd_emit.specs.Windows.{Window}
+use Rattle.ecd_fixed_heads.specs.Meanings.{HeadArgument}
+use Rattle.ecd_fixed_bytes.specs.Utf8.{ChecksUtf8, one_where}
 use Rattle.ecd_rt.specs.Trees.{text_end}
 use Rattle.ecd_rt.specs.Meanings.{text_place}
 use Rattle.ecd_rt.proofs.Windows.{part, inside}

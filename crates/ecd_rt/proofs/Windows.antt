@@ -5,7 +5,7 @@ use Rattle.std.proofs.lemmas.Bool.{le-leb}
 use Rattle.std.proofs.lemmas.List.{drop-take, drop-drop, take-take}
 use Rattle.ecd_cast.specs.Memory.{Memory}
 use Rattle.ecd_head.proofs.Heads.{IsBytes-drop, IsBytes-take}
-use Rattle.ecd_fixed.specs.Windows.{Window}
+use Rattle.ecd_emit.specs.Windows.{Window}
 
 module _ {m : Memory} {block offset len : ℕ} {bytes : List ℕ} (w : Window m block offset len bytes) where
   pub part : (from n : ℕ) → from + n ≤ len → Window m block (offset + from) n (take n (drop from bytes))

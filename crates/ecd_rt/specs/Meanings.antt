@@ -3,16 +3,16 @@ use Rattle.std.specs.Prelude.{ℕ, Bool, ◌+◌, ◌-◌, ◌*◌, ◌≤◌, �
 use Rattle.std.specs.Str.{is_utf8}
 use Rattle.ecd_cast.specs.declared.value.Value.TheVariants.{Number as Num, Bytes as Ptr}
 use Rattle.ecd_cast.specs.Memory.{Memory}
-use Rattle.ecd_cast.specs.Ends.{Answers}
+use Rattle.ecd_calculus.specs.Ends.{Answers}
 use Rattle.ecd_keyorder.specs.declared.Order.TheVariants.{Bytewise}
 use Rattle.ecd_head.specs.declared.Head.{Head}
 use Rattle.ecd_head.specs.Place.{StandsAt}
 use Rattle.ecd_head.specs.Fault.{head_at}
-use Rattle.ecd_item.specs.declared.item.Item.{Item}
-use Rattle.ecd_item.specs.Encoding.{encoding}
-use Rattle.ecd_item.specs.Valid.{IsWhole}
-use Rattle.ecd_fixed.specs.Windows.{Callee, Window, IsEnd, asked}
-use Rattle.ecd_fixed.specs.Extents.{AnswersWithin}
+use Rattle.ecd_item_laws.specs.declared.item.Item.{Item}
+use Rattle.ecd_item_laws.specs.Encoding.{encoding}
+use Rattle.ecd_item_laws.specs.Valid.{IsWhole}
+use Rattle.ecd_emit.specs.Windows.{Callee, Window, IsEnd, asked}
+use Rattle.ecd_fixed_heads.specs.Extents.{AnswersWithin}
 
 -- the place behind a text, or 0 where its bytes are no UTF-8
 abbrev pub text_place : Bool → ℕ → ℕ

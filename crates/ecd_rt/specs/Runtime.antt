@@ -4,14 +4,16 @@ use Rattle.ecd_cast.specs.declared.tree.CItem.{CItem}
 use Rattle.ecd_cast.specs.declared.tree.CItem.TheVariants.{Function as AFunction}
 use Rattle.ecd_cast.specs.Memory.{Name}
 use Rattle.ecd_cast.specs.Meaning.{calls_of}
-use Rattle.ecd_fixed.specs.Heads.{head_functions, head_names}
-use Rattle.ecd_fixed.specs.Extents.{extent_functions, extent_names}
-use Rattle.ecd_fixed.specs.ExtentsStanding.{ExtentsAreThere, ExtentsMean}
-use Rattle.ecd_fixed.specs.Utf8.{utf8_functions, utf8_names}
-use Rattle.ecd_fixed.specs.Compare.{compare_bytes, ComparesBytes}
-use Rattle.ecd_fixed.specs.HeadWriter.{put_functions, put_names}
-use Rattle.ecd_fixed.specs.Copier.{copy_bytes, CopiesBytes}
-use Rattle.ecd_fixed.specs.Standing.{AreNew, IsAmong, HeadsAreThere, HeadsMean, Utf8IsThere, Utf8Means, HeadWriterIsThere, HeadWriterMeans}
+use Rattle.ecd_fixed_heads.specs.Heads.{head_functions, head_names}
+use Rattle.ecd_fixed_heads.specs.Extents.{extent_functions, extent_names}
+use Rattle.ecd_fixed_heads.specs.ExtentsStanding.{ExtentsAreThere, ExtentsMean}
+use Rattle.ecd_fixed_bytes.specs.Utf8.{utf8_functions, utf8_names}
+use Rattle.ecd_fixed_bytes.specs.Compare.{compare_bytes, ComparesBytes}
+use Rattle.ecd_fixed_bytes.specs.HeadWriter.{put_functions, put_names}
+use Rattle.ecd_fixed_bytes.specs.Copier.{copy_bytes, CopiesBytes}
+use Rattle.ecd_emit.specs.Among.{AreNew, IsAmong}
+use Rattle.ecd_fixed_heads.specs.Standing.{HeadsAreThere, HeadsMean}
+use Rattle.ecd_fixed_bytes.specs.Standing.{Utf8IsThere, Utf8Means, HeadWriterIsThere, HeadWriterMeans}
 use Rattle.ecd_rt.specs.Trees.{any_functions, any_names}
 use Rattle.ecd_rt.specs.Standing.{AnyIsThere, AnyMeans}
 

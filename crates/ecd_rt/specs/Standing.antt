@@ -2,11 +2,13 @@
 use Rattle.std.specs.Prelude.{ℕ, ◌≤◌, List, codes}
 use Rattle.ecd_cast.specs.declared.tree.CItem.{CItem}
 use Rattle.ecd_cast.specs.Meaning.{calls_of}
-use Rattle.ecd_fixed.specs.Heads.{head_argument}
-use Rattle.ecd_fixed.specs.Extents.{own_end}
-use Rattle.ecd_fixed.specs.ExtentsStanding.{ExtentsAreThere, ExtentsMean}
-use Rattle.ecd_fixed.specs.Compare.{compare_bytes, ComparesBytes}
-use Rattle.ecd_fixed.specs.Standing.{IsAmong, HeadsAreThere, HeadsMean, Utf8IsThere, Utf8Means}
+use Rattle.ecd_fixed_heads.specs.Heads.{head_argument}
+use Rattle.ecd_fixed_heads.specs.Extents.{own_end}
+use Rattle.ecd_fixed_heads.specs.ExtentsStanding.{ExtentsAreThere, ExtentsMean}
+use Rattle.ecd_fixed_bytes.specs.Compare.{compare_bytes, ComparesBytes}
+use Rattle.ecd_emit.specs.Among.{IsAmong}
+use Rattle.ecd_fixed_heads.specs.Standing.{HeadsAreThere, HeadsMean}
+use Rattle.ecd_fixed_bytes.specs.Standing.{Utf8IsThere, Utf8Means}
 use Rattle.ecd_rt.specs.Names.{any_name}
 use Rattle.ecd_rt.specs.Trees.{text_end, any_end}
 use Rattle.ecd_rt.specs.Meanings.{TextEnd, IsAny}

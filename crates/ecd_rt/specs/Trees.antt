@@ -11,10 +11,8 @@ use Rattle.ecd_cast.specs.declared.tree.Function.{Function}
 use Rattle.ecd_cast.specs.declared.tree.CItem.{CItem}
 use Rattle.ecd_cast.specs.declared.tree.CItem.TheVariants.{Function as AFunction}
 use Rattle.ecd_cast.specs.Memory.{Name}
-use Rattle.ecd_fixed.specs.Shorthands.{number, pointer, let_number, let_call, guard, guard_call}
-use Rattle.ecd_fixed.specs.Variables as v
-use Rattle.ecd_fixed.specs.Heads.{none_where}
-use Rattle.ecd_fixed.specs.Extents.{let_major, let_argument, of_two, assign}
+use Rattle.ecd_emit.specs.Shorthands.{number, pointer, let_number, let_call, guard, guard_call, none_where, let_major, let_argument, of_two, assign}
+use Rattle.ecd_emit.specs.Variables as v
 use Rattle.ecd_rt.specs.Names.{any_name, items_name, pairs_name}
 use Rattle.ecd_rt.specs.Variables as w
 

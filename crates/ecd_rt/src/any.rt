@@ -3,19 +3,20 @@
 ghost use Rattle.std.specs.Prelude.{◌≡◌, ◌≤◌, ◌<◌, [], ◌∷◌, ◌++◌, suc, IfOk, OnOk, codes};
 ghost use Rattle.ecd_cast.specs.declared.tree.Op.TheVariants.{Eq};
 ghost use Rattle.ecd_cast.specs.declared.tree.Expr.TheVariants.{Number as ANumber, Var as AVar};
-ghost use Rattle.ecd_fixed.specs.Shorthands as spec;
-ghost use Rattle.ecd_fixed.specs.Variables as v;
-ghost use Rattle.ecd_fixed.specs.Standing.{AreNew};
+ghost use Rattle.ecd_emit.specs.Shorthands as spec;
+ghost use Rattle.ecd_emit.specs.Variables as v;
+ghost use Rattle.ecd_emit.specs.Among.{AreNew};
 ghost use Rattle.ecd_rt.specs.Trees as trees;
 ghost use Rattle.ecd_rt.specs.Trees.{any_functions, any_names};
 ghost use Rattle.ecd_rt.specs.Standing.{FrontIsThere, FrontMeans, LevelIsThere, AnyIsThere, AnyMeans};
 
 use crate::names::{any_name, items_name, pairs_name};
 use crate::runs::{items_end, pairs_end, text_end};
-use ecd_cast::build::{declare_call, give, name, one, var};
-use ecd_cast::builder::Builder;
 use ecd_cast::tree::{CItem, Expr, ExprList, Function, Name, Op, Stmt, StmtList};
-use ecd_fixed::shorthands::{
+use ecd_cbuild::build::{declare_call, give, name, one, var};
+use ecd_cbuild::builder::Builder;
+use ecd_cast::tree::{CItem, CItemList, Expr, ExprList, Function, Name, Op, Stmt, StmtList};
+use ecd_emit::shorthands::{
     give_variable, let_argument, let_call, let_major, place_args, where_call, where_number,
     window_args, window_params,
 };
@@ -116,15 +117,34 @@ fn level_end(alloc: Global, below: u8) -> Result<Function, OutOfMemory>
     })
 }
 
+/// The functions of depth 0, in their order.
+fn leaf_items(alloc: Global) -> Result<CItemList, OutOfMemory>
+    ensures { IfOk result (λ items. items ≡ any_functions 0) }
+{
+    let mut items = one(alloc, CItem::Function(text_end(alloc)?))?;
+    items.push(CItem::Function(leaf_end(alloc)?))?;
+    Ok(items)
+}
+
 /// Puts the functions of depth 0 behind the builder's items: `text_end` and `any_0`.
 fn put_leaf(alloc: Global, builder: &mut Builder) -> Result<(), OutOfMemory>
     requires there { FrontIsThere builder.old }
     requires new { AreNew (any_names 0) builder.old }
     ensures { OnOk result (builder.new ≡ builder.old ++ any_functions 0) }
 {
-    builder.push(CItem::Function(text_end(alloc)?))?;
-    builder.push(CItem::Function(leaf_end(alloc)?))?;
+    builder.extend(leaf_items(alloc)?)?;
     Ok(())
+}
+
+/// The functions of one level, in their order.
+fn level_items(alloc: Global, below: u8) -> Result<CItemList, OutOfMemory>
+    requires { below < 32 }
+    ensures { IfOk result (λ items. items ≡ trees.level_functions below) }
+{
+    let mut items = one(alloc, CItem::Function(items_end(alloc, below)?))?;
+    items.push(CItem::Function(pairs_end(alloc, below)?))?;
+    items.push(CItem::Function(level_end(alloc, below)?))?;
+    Ok(items)
 }
 
 /// Puts the functions of one level behind those below: `items_` and `pairs_` of the depth below, and `any_` of the next.
@@ -134,9 +154,7 @@ fn put_level(alloc: Global, below: u8, builder: &mut Builder) -> Result<(), OutO
     requires new { AreNew (trees.level_names below) builder.old }
     ensures { OnOk result (builder.new ≡ builder.old ++ trees.level_functions below) }
 {
-    builder.push(CItem::Function(items_end(alloc, below)?))?;
-    builder.push(CItem::Function(pairs_end(alloc, below)?))?;
-    builder.push(CItem::Function(level_end(alloc, below)?))?;
+    builder.extend(level_items(alloc, below)?)?;
     Ok(())
 }
 

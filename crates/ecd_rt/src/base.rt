@@ -2,13 +2,15 @@
 
 ghost use Rattle.std.specs.Prelude.{◌≡◌, ◌++◌, OnOk, codes};
 ghost use Rattle.ecd_cast.specs.Meaning.{calls_of};
-ghost use Rattle.ecd_fixed.specs.Copier.{copy_bytes, CopiesBytes};
-ghost use Rattle.ecd_fixed.specs.Standing.{AreNew, IsAmong, HeadWriterIsThere, HeadWriterMeans};
+ghost use Rattle.ecd_fixed_bytes.specs.Copier.{copy_bytes, CopiesBytes};
+ghost use Rattle.ecd_emit.specs.Among.{AreNew, IsAmong};
+ghost use Rattle.ecd_fixed_bytes.specs.Standing.{HeadWriterIsThere, HeadWriterMeans};
 ghost use Rattle.ecd_rt.specs.Standing.{FrontIsThere, FrontMeans};
 ghost use Rattle.ecd_rt.specs.Runtime.{front_functions, front_names, writing_functions, writing_names};
 
-use ecd_cast::builder::Builder;
-use ecd_fixed::{comparison, copier, extents, head_writer, heads, utf8_check};
+use ecd_cbuild::builder::Builder;
+use ecd_fixed_bytes::{comparison, copier, head_writer, utf8_check};
+use ecd_fixed_heads::{extents, heads};
 use ecd_list::OutOfMemory;
 use std::alloc::Global;
 

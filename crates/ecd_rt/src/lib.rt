@@ -2,7 +2,7 @@
 #![tactic(auto)]
 
 ghost use Rattle.std.specs.Prelude.{◌≡◌, ◌≤◌, ◌++◌, OnOk};
-ghost use Rattle.ecd_fixed.specs.Standing.{AreNew};
+ghost use Rattle.ecd_emit.specs.Among.{AreNew};
 ghost use Rattle.ecd_rt.specs.Runtime.{runtime_functions, runtime_names, RuntimeIsThere, RuntimeMeans};
 
 mod any;
@@ -10,12 +10,10 @@ mod base;
 pub mod laws;
 mod names;
 mod runs;
-#[cfg(test)]
-mod tests;
 
 use crate::any::any_chain;
 use crate::base::{put_front, put_writing};
-use ecd_cast::builder::Builder;
+use ecd_cbuild::builder::Builder;
 use ecd_list::OutOfMemory;
 use std::alloc::Global;
 

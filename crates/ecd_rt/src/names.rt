@@ -3,8 +3,8 @@
 ghost use Rattle.std.specs.Prelude.{◌≡◌, IfOk};
 ghost use Rattle.ecd_rt.specs.Names as spec;
 
-use ecd_cast::build::name;
 use ecd_cast::tree::Name;
+use ecd_cbuild::build::name;
 use ecd_list::OutOfMemory;
 use std::alloc::Global;
 

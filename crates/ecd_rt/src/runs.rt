@@ -4,15 +4,15 @@ ghost use Rattle.std.specs.Prelude.{◌≡◌, [], ◌∷◌, ◌++◌, IfOk};
 ghost use Rattle.ecd_cast.specs.declared.tree.Op.TheVariants.{Sub};
 ghost use Rattle.ecd_cast.specs.declared.tree.Expr.TheVariants.{Var as AVar};
 ghost use Rattle.ecd_cast.specs.declared.tree.Stmt.TheVariants.{For as AFor};
-ghost use Rattle.ecd_fixed.specs.Variables as v;
-ghost use Rattle.ecd_fixed.specs.Extents as extents;
+ghost use Rattle.ecd_emit.specs.Variables as v;
+ghost use Rattle.ecd_emit.specs.Shorthands as spec;
 ghost use Rattle.ecd_rt.specs.Variables as w;
 ghost use Rattle.ecd_rt.specs.Trees as trees;
 
 use crate::names::{any_name, items_name, pairs_name};
-use ecd_cast::build::{binary, declare_call, name, one, var};
 use ecd_cast::tree::{Expr, ExprList, Function, Name, Op, ParamList, Source, Stmt, StmtList};
-use ecd_fixed::shorthands::{
+use ecd_cbuild::build::{binary, declare_call, name, one, var};
+use ecd_emit::shorthands::{
     assign, function, give_variable, let_argument, let_call, let_number, number, of_two,
     place_params, where_number, window_args, window_params,
 };
@@ -28,7 +28,7 @@ fn buf_from(alloc: Global, place: Expr) -> Result<Expr, OutOfMemory>
 
 /// `((buf + (end - argument)), argument)`
 fn string_args(alloc: Global) -> Result<ExprList, OutOfMemory>
-    ensures { IfOk result (λ es. es ≡ trees.buf_from (extents.of_two Sub v.end v.argument) ∷ AVar v.argument ∷ []) }
+    ensures { IfOk result (λ es. es ≡ trees.buf_from (spec.of_two Sub v.end v.argument) ∷ AVar v.argument ∷ []) }
 {
     let start = of_two(alloc, Op::Sub, b"end", b"argument")?;
     let mut args = one(alloc, buf_from(alloc, start)?)?;

@@ -1,4 +1,4 @@
-use Rattle.ecd_cast.proofs.Frame.{first_fault}
+use Rattle.ecd_cast.proofs.Verdicts.{first_fault}
 use Rattle.ecd_cast.proofs.laws.first_fault.Goals as goal
 
 pub returns : goal.returns

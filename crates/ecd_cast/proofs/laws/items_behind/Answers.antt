@@ -1,6 +1,5 @@
-use Rattle.ecd_cast.proofs.Calculus.{calls_kept}
 use Rattle.ecd_cast.proofs.Kept.{item_kept}
 use Rattle.ecd_cast.proofs.laws.items_behind.Goals as goal
 
 pub returns : goal.returns
-returns c = record { meaning = calls_kept; validity = item_kept }
+returns c = record { validity = item_kept }

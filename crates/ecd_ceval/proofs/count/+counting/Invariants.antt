@@ -1,5 +1,5 @@
 use Rattle.std.proofs.Common.{◌≡◌, take}
-use Rattle.ecd_cast.specs.Laws.{count_all}
+use Rattle.ecd_cast.specs.Meaning.{count_all}
 use Rattle.ecd_ceval.proofs.count.+counting.Given as goal
 
 abbrev pub invariant-count_all-loop-statement : goal.invariant-count_all-loop-statement

@@ -2,7 +2,7 @@ use Rattle.std.proofs.Common.{◌≡◌, [], ◌+◌, ◌-◌, suc, take, true, 
 use Rattle.std.proofs.lemmas.Result.{err_from_is_err_and}
 use Rattle.ecd_cast.specs.declared.value.Value.TheVariants.{Truth}
 use Rattle.ecd_cast.specs.Expressions.{Gives, value_of}
-use Rattle.ecd_cast.specs.Laws.{count_all}
+use Rattle.ecd_cast.specs.Meaning.{count_all}
 use Rattle.ecd_cast.specs.Meaning.{block}
 use Rattle.ecd_ceval.specs.Following.{memory_in}
 use Rattle.ecd_ceval.specs.Places.{calls_in, place_in}

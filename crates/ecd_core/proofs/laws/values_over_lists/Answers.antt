@@ -3,11 +3,10 @@ use Rattle.ecd_keyorder.specs.declared.Order.{Order}
 use Rattle.ecd_core.specs.declared.shape.MapEntry.TheVariants as m
 use Rattle.ecd_core.specs.declared.shape.Pick.{out-Pick}
 use Rattle.ecd_core.specs.Laws.{AreAlike}
-use Rattle.ecd_core.specs.Listed.{ways_mean}
+use Rattle.ecd_core.specs.Listed.{field_of, ways_mean}
 use Rattle.ecd_core.specs.Maps.{EntryMeaning, AField, APick, ATable, Takes, Blocks, EntryHas}
-use Rattle.ecd_core.specs.Owners.{field_of}
 use Rattle.ecd_core.specs.Values.{meaning, HasValue}
-use Rattle.ecd_core.proofs.Fits.{fwd, bwd}
+use Rattle.ecd_core.proofs.Layers.{fwd, bwd}
 use Rattle.ecd_core.proofs.Layers as layers
 use Rattle.ecd_core.proofs.laws.values_over_lists.Goals as goal
 

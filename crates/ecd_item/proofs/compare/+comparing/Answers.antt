@@ -1,8 +1,8 @@
 use Rattle.std.proofs.Common.{◌∙◌, sym, rules, arith, refl}
 use Rattle.ecd_keyorder.specs.declared.Order.TheVariants.{Bytewise}
-use Rattle.ecd_item.specs.Encoding.{encoding, pair_bytes}
-use Rattle.ecd_item.specs.Valid.{IsValid, IsValidPair}
-use Rattle.ecd_item.specs.declared.item.Item.{the_lemmas}
+use Rattle.ecd_item_laws.specs.Encoding.{encoding, pair_bytes}
+use Rattle.ecd_item_laws.specs.Valid.{IsValid, IsValidPair}
+use Rattle.ecd_item_laws.specs.declared.item.Item.{the_lemmas}
 use Rattle.ecd_item.proofs.Comparing.{heads_differ, heads_same, writable_as, uint_arm, nint_arm, simple_arm, bytes_arm, text_arm, array_arm, array_needs, map_arm, map_needs, tag_arm, tag_needs, tag_none, items_apart, pairs_apart, keys_decide, values_decide, differ_at, same_at, same_all, valid_at, not_ne}
 use Rattle.ecd_item.proofs.compare.+comparing.Goals as goal
 

@@ -1,5 +1,5 @@
 use Rattle.std.proofs.Common.{◌≡◌, map, take}
-use Rattle.ecd_item.specs.Encoding.{encoding, pair_bytes, joined}
+use Rattle.ecd_item_laws.specs.Encoding.{encoding, pair_bytes, joined}
 use Rattle.ecd_item.proofs.compare.+comparing.Given as goal
 
 abbrev pub invariant-compare_items-loop-at : goal.invariant-compare_items-loop-at

@@ -2,7 +2,8 @@ use Rattle.std.proofs.Common.{drop, None, sym, arith}
 use Rattle.std.specs.Option.{option_copied}
 use Rattle.std.proofs.lemmas.Result.{err_from_is_err_and}
 use Rattle.ecd_keyorder.specs.declared.Order.TheVariants.{Bytewise}
-use Rattle.ecd_item.specs.Reading.{seen, many, pairs, item_at}
+use Rattle.ecd_item_laws.specs.Reading.{many, pairs, item_at}
+use Rattle.ecd_item.specs.Told.{seen}
 use Rattle.ecd_item.proofs.Loops.{goes_on, ends, is_done, pair_goes_on, key_ends, value_ends, order_ends, pairs_done}
 use Rattle.ecd_item.proofs.read.+reading.Goals as goal
 

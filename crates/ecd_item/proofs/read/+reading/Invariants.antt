@@ -1,8 +1,8 @@
 use Rattle.std.proofs.Common.{◌≡◌, ◌≤◌, ◌+◌, ◌*◌, ◌-◌, length, drop, None}
 use Rattle.std.specs.Option.{option_copied}
 use Rattle.ecd_keyorder.specs.declared.Order.TheVariants.{Bytewise}
-use Rattle.ecd_item.specs.Reading.{many, pairs, item_at}
-use Rattle.ecd_item.proofs.Loops.{with_front}
+use Rattle.ecd_item_laws.specs.Reading.{many, pairs, item_at}
+use Rattle.ecd_item_laws.proofs.Results.{with_front}
 use Rattle.ecd_item.proofs.read.+reading.Given as goal
 
 abbrev pub decreases-item_of : goal.decreases-item_of

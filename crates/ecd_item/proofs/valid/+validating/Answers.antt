@@ -1,6 +1,6 @@
 use Rattle.std.proofs.Common.{arith}
 use Rattle.ecd_keyorder.specs.declared.Order.TheVariants.{Bytewise}
-use Rattle.ecd_item.specs.Valid.{IsWhole, IsWholePair}
+use Rattle.ecd_item_laws.specs.Valid.{IsWhole, IsWholePair}
 use Rattle.ecd_item.proofs.Whole.{all_more, all_done, uint_tells, nint_tells, bytes_tells, text_tells, low_tells, high_tells, array_tells, map_tells, tag_tells, deep_array, deep_map, deep_tag, pairs_end, pairs_valid}
 use Rattle.ecd_item.proofs.valid.+validating.Goals as goal
 

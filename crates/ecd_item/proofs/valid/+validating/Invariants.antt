@@ -1,7 +1,7 @@
 use Rattle.std.proofs.Common.{take}
 use Rattle.std.specs.List.{AllByRecursion}
 use Rattle.ecd_keyorder.specs.declared.Order.TheVariants.{Bytewise}
-use Rattle.ecd_item.specs.Valid.{IsWhole, IsWholePair}
+use Rattle.ecd_item_laws.specs.Valid.{IsWhole, IsWholePair}
 use Rattle.ecd_item.proofs.valid.+validating.Given as goal
 
 abbrev pub invariant-are_valid-loop-item : goal.invariant-are_valid-loop-item

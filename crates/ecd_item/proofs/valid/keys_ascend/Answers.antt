@@ -1,6 +1,6 @@
 use Rattle.std.proofs.Common.{◌∙◌, sym}
 use Rattle.ecd_keyorder.specs.declared.Order.TheVariants.{Bytewise}
-use Rattle.ecd_item.specs.Encoding.{key_bytes}
+use Rattle.ecd_item_laws.specs.Encoding.{key_bytes}
 use Rattle.ecd_item.proofs.Whole.{ascend_one, ascend_next, ascend_fails, ascend_all, lt_is, lt_not}
 use Rattle.ecd_item.proofs.valid.keys_ascend.Goals as goal
 

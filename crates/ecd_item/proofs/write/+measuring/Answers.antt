@@ -1,10 +1,10 @@
 use Rattle.std.proofs.Common.{◌∙◌, ◌+◌, ◌^◌, ℕ, List, ap, length, map}
 use Rattle.std.specs.Prelude.{min}
 use Rattle.ecd_head.specs.Head.{head_bytes}
-use Rattle.ecd_item.specs.declared.item.Item.{Item}
-use Rattle.ecd_item.specs.declared.item.Pair.{Pair}
-use Rattle.ecd_item.specs.Encoding.{encoding, joined}
-use Rattle.ecd_item.specs.Encoding.{pair_bytes}
+use Rattle.ecd_item_laws.specs.declared.item.Item.{Item}
+use Rattle.ecd_item_laws.specs.declared.item.Pair.{Pair}
+use Rattle.ecd_item_laws.specs.Encoding.{encoding, joined}
+use Rattle.ecd_item_laws.specs.Encoding.{pair_bytes}
 use Rattle.ecd_item.proofs.Lengths.{total_more, bytes_length, text_length, array_length, map_length, tag_length, pair_total_more}
 use Rattle.ecd_item.proofs.write.+measuring.Goals as goal
 

@@ -1,6 +1,6 @@
 use Rattle.std.proofs.Common.{◌≡◌, ◌^◌, length, take, map}
 use Rattle.std.specs.Prelude.{min}
-use Rattle.ecd_item.specs.Encoding.{encoding, pair_bytes, joined}
+use Rattle.ecd_item_laws.specs.Encoding.{encoding, pair_bytes, joined}
 use Rattle.ecd_item.proofs.write.+measuring.Given as goal
 
 abbrev pub invariant-items_length-loop-item : goal.invariant-items_length-loop-item

@@ -1,10 +1,10 @@
 use Rattle.std.proofs.Common.{ap, arith, length, rules}
 use Rattle.ecd_head.specs.Head.{head_bytes}
 use Rattle.ecd_keyorder.specs.declared.Order.TheVariants.{Bytewise}
-use Rattle.ecd_item.specs.Encoding.{encoding}
-use Rattle.ecd_item.specs.declared.item.Item.{the_lemmas}
-use Rattle.ecd_item.proofs.Layers.{encoding-Array, encoding-Map, encoding-Tag, valid_Tag}
-use Rattle.ecd_item.specs.Encoding.{pair_bytes}
+use Rattle.ecd_item_laws.specs.Encoding.{encoding}
+use Rattle.ecd_item_laws.specs.declared.item.Item.{the_lemmas}
+use Rattle.ecd_item_laws.proofs.Layers.{encoding-Array, encoding-Map, encoding-Tag, valid_Tag}
+use Rattle.ecd_item_laws.specs.Encoding.{pair_bytes}
 use Rattle.ecd_item.proofs.Emitting.{Emits-then, head_room, piece_room, piece_next, piece_done, simple_writable, item_valid, pair_valid, key_room, value_room}
 use Rattle.ecd_item.proofs.write.+writing.Goals as goal
 

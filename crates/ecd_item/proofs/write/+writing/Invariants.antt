@@ -1,8 +1,8 @@
 use Rattle.std.proofs.Common.{◌++◌, length, take, map}
 use Rattle.ecd_head.specs.Head.{head_bytes}
-use Rattle.ecd_item.specs.Encoding.{encoding, joined}
+use Rattle.ecd_item_laws.specs.Encoding.{encoding, joined}
 use Rattle.ecd_item.specs.Writing.{Emits}
-use Rattle.ecd_item.specs.Encoding.{pair_bytes}
+use Rattle.ecd_item_laws.specs.Encoding.{pair_bytes}
 use Rattle.ecd_item.proofs.write.+writing.Given as goal
 
 abbrev pub invariant-emit_array-loop-item : goal.invariant-emit_array-loop-item

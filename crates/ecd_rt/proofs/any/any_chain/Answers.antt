@@ -1,6 +1,6 @@
 -- Behind each turn the functions of the levels so far are there.
 use Rattle.std.proofs.Common.{◌≡◌, ◌++◌, sym, subst, ◌∙◌, ap, arith}
-use Rattle.ecd_fixed.specs.Standing.{AreNew}
+use Rattle.ecd_emit.specs.Among.{AreNew}
 use Rattle.ecd_rt.specs.Trees.{any_functions, level_names}
 use Rattle.ecd_rt.specs.Standing.{LevelIsThere, AnyIsThere, AnyMeans}
 use Rattle.ecd_rt.proofs.Climbing.{next_there, next_new, chain_there, chain_means, grown_level, base_new}

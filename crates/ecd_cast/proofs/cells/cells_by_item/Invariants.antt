@@ -1,6 +1,0 @@
-use Rattle.std.proofs.Common.{take}
-use Rattle.ecd_cast.specs.Surroundings.{HasCells}
-use Rattle.ecd_cast.proofs.cells.cells_by_item.Given as goal
-
-abbrev pub invariant-loop-item : goal.invariant-loop-item
-invariant-loop-item l = HasCells (take l.item-index l.items) l.maps.items

@@ -1,5 +1,0 @@
-use Rattle.ecd_cast.proofs.Sees.{finds_then}
-use Rattle.ecd_cast.proofs.judge_source.judge_as.Goals as goal
-
-pub returns : goal.returns
-returns c = rw (← c.in_ok-kind.ensures.kind, ← c.takes.ensures) (finds_then c.in_ok-kind.ensures.faults c.unless.ensures)

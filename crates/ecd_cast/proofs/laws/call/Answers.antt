@@ -1,5 +1,0 @@
-use Rattle.ecd_cast.proofs.Calculus.{ends_called, call_declares}
-use Rattle.ecd_cast.proofs.laws.call.Goals as goal
-
-pub returns : goal.returns
-returns c = record { body = ends_called; declares = call_declares }

@@ -1,5 +1,0 @@
-use Rattle.ecd_cast.proofs.Loops.{loop_falls, loop_returns}
-use Rattle.ecd_cast.proofs.laws.loops.Goals as goal
-
-pub returns : goal.returns
-returns c = record { falls = loop_falls; returns = loop_returns }

@@ -1,5 +1,0 @@
-use Rattle.ecd_cast.proofs.Calculus.{block_falls, block_returns}
-use Rattle.ecd_cast.proofs.laws.sequence.Goals as goal
-
-pub returns : goal.returns
-returns c = record { falls = block_falls; returns = block_returns }

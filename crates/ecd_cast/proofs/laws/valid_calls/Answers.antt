@@ -1,5 +1,0 @@
-use Rattle.ecd_cast.proofs.SoundFiles.{valid_calls}
-use Rattle.ecd_cast.proofs.laws.valid_calls.Goals as goal
-
-pub returns : goal.returns
-returns c = valid_calls

@@ -1,5 +1,0 @@
-use Rattle.ecd_cast.specs.Spelling.{IsSpelledExpr}
-use Rattle.ecd_cast.proofs.rules_tests.negations.Given as goal
-
-abbrev pub invariant-loop : goal.invariant-loop
-invariant-loop l = IsSpelledExpr l.expr

@@ -1,5 +1,0 @@
-use Rattle.ecd_cast.specs.Spelling.{IsSpelledStmt}
-use Rattle.ecd_cast.proofs.rules_tests.nested.Given as goal
-
-abbrev pub invariant-loop : goal.invariant-loop
-invariant-loop l = IsSpelledStmt l.stmt

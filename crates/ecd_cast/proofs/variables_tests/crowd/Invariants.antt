@@ -1,5 +1,0 @@
-use Rattle.ecd_cast.specs.Spelling.{IsSpelledBlock}
-use Rattle.ecd_cast.proofs.variables_tests.crowd.Given as goal
-
-abbrev pub invariant-loop-number : goal.invariant-loop-number
-invariant-loop-number l = IsSpelledBlock l.body

@@ -1,0 +1,4 @@
+pub mod Heaviest
+pub mod Lookup
+pub mod Built
+pub mod Extended

@@ -1,0 +1,10 @@
+pub mod Sound
+pub mod Places
+pub mod SoundScopes
+pub mod SoundRuns
+pub mod SoundStmts
+pub mod SoundFiles
+pub mod StuckPlaces
+pub mod Active
+pub mod DeepestChains
+pub mod LongestChains

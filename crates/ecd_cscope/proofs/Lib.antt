@@ -1,0 +1,4 @@
+pub mod Known
+pub mod CellMaps
+pub mod Directs
+pub mod PutFirst

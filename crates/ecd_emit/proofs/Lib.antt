@@ -1,0 +1,5 @@
+pub mod Windows
+pub mod Kept
+pub mod Placed
+pub mod Stopping
+pub mod Writing

@@ -1,0 +1,5 @@
+pub mod Shorthands
+pub mod Variables
+pub mod Windows
+pub mod Writes
+pub mod Among

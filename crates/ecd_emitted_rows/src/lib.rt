@@ -1,0 +1,9 @@
+//! The emitted functions, run over bytes by the evaluator, against the readers of heads and items.
+#![tactic(auto)]
+
+#[cfg(test)]
+mod depth_rows;
+#[cfg(test)]
+mod extent_rows;
+#[cfg(test)]
+mod head_rows;

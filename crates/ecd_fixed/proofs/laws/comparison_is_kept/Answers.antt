@@ -1,5 +1,0 @@
-use Rattle.ecd_fixed.proofs.Kept.{comparison_is_kept}
-use Rattle.ecd_fixed.proofs.laws.comparison_is_kept.Goals as goal
-
-pub returns : goal.returns
-returns c = comparison_is_kept

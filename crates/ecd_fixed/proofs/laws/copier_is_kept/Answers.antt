@@ -1,5 +1,0 @@
-use Rattle.ecd_fixed.proofs.Kept.{copier_is_kept}
-use Rattle.ecd_fixed.proofs.laws.copier_is_kept.Goals as goal
-
-pub returns : goal.returns
-returns c = copier_is_kept

@@ -1,5 +1,0 @@
-use Rattle.ecd_fixed.proofs.FirstHeads.{first_bytes_tell}
-use Rattle.ecd_fixed.proofs.laws.first_bytes_tell.Goals as goal
-
-pub returns : goal.returns
-returns c = first_bytes_tell

@@ -1,9 +1,0 @@
-use Rattle.ecd_fixed.proofs.Framing.{valid_framed}
-use Rattle.ecd_fixed.proofs.Owing.{framed_end_once}
-use Rattle.ecd_fixed.proofs.laws.framed_items.Goals as goal
-
-pub returns-clause-valid : goal.returns-clause-valid
-returns-clause-valid c = valid_framed
-
-pub returns-clause-once : goal.returns-clause-once
-returns-clause-once c = framed_end_once

@@ -1,5 +1,0 @@
-use Rattle.ecd_fixed.proofs.Kept.{head_writer_is_kept}
-use Rattle.ecd_fixed.proofs.laws.head_writer_is_kept.Goals as goal
-
-pub returns : goal.returns
-returns c = head_writer_is_kept

@@ -1,5 +1,0 @@
-use Rattle.ecd_fixed.proofs.Stands.{heads_are_read}
-use Rattle.ecd_fixed.proofs.laws.heads_are_read.Goals as goal
-
-pub returns : goal.returns
-returns c = heads_are_read

@@ -1,5 +1,0 @@
-use Rattle.ecd_fixed.proofs.Writing.{puts_are_written}
-use Rattle.ecd_fixed.proofs.laws.puts_are_written.Goals as goal
-
-pub returns : goal.returns
-returns c = puts_are_written

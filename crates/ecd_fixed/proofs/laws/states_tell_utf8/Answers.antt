@@ -1,5 +1,0 @@
-use Rattle.ecd_fixed.proofs.States.{states_tell}
-use Rattle.ecd_fixed.proofs.laws.states_tell_utf8.Goals as goal
-
-pub returns : goal.returns
-returns c = states_tell

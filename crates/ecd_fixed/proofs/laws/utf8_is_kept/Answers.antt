@@ -1,5 +1,0 @@
-use Rattle.ecd_fixed.proofs.Kept.{utf8_is_kept}
-use Rattle.ecd_fixed.proofs.laws.utf8_is_kept.Goals as goal
-
-pub returns : goal.returns
-returns c = utf8_is_kept

@@ -1,0 +1,5 @@
+pub mod Compare
+pub mod Copier
+pub mod HeadWriter
+pub mod Utf8
+pub mod Standing

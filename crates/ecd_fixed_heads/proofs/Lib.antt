@@ -1,0 +1,16 @@
+pub mod Numbers
+pub mod FirstBytes
+pub mod Arguments
+pub mod Ends
+pub mod Stands
+pub mod FirstHeads
+pub mod Kept
+pub mod Valid
+pub mod Placed
+pub mod Framing
+pub mod Opening
+pub mod Owing
+pub mod Within
+pub mod Meeting
+pub mod Extending
+pub mod Extended

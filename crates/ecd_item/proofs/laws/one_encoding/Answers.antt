@@ -1,5 +1,0 @@
-use Rattle.ecd_item.proofs.Clauses.{has_one_encoding, encodes_one_item, has_no_proper_prefix, begins_with_one_item}
-use Rattle.ecd_item.proofs.laws.one_encoding.Goals as goal
-
-pub returns : goal.returns
-returns c = record { one_encoding = has_one_encoding; one_item = encodes_one_item; no_proper_prefix = has_no_proper_prefix; one_front = begins_with_one_item }

@@ -1,8 +1,0 @@
-use Rattle.std.proofs.Common.{sym, subst}
-use Rattle.ecd_fixed.specs.Standing.{AreNew}
-use Rattle.ecd_rt.specs.Runtime.{runtime_names}
-use Rattle.ecd_rt.proofs.Fresh.{new_in_none}
-use Rattle.ecd_rt.proofs.tests.program.Goals as goal
-
-pub runtime-requires-clause-new : goal.runtime-requires-clause-new
-runtime-requires-clause-new c = subst (AreNew (runtime_names c.args.depth)) (sym c.new-builder.ensures) (new_in_none (runtime_names c.args.depth))
