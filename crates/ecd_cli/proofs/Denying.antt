@@ -1,56 +1,57 @@
 -- What is asked for over given contents is refused for one thing at most, and never where it is a text.
 use Rattle.std.proofs.Common.{◌≡◌, ℕ, ◌⊎◌, ⊎_elim, List, [], ◌∷◌, ap, sym, ◌∙◌, subst}
+use Rattle.ecd_judge.specs.Request.{Request}
 use Rattle.ecd_compile.proofs.Causes.{one_cause, never_refused, one_number}
 use Rattle.ecd_cli.proofs.Calling.{not_run_once, not_run_or_run}
 use Rattle.ecd_cli.specs.Asked.{Asked, check, compile, read, write, copy, run, sample}
 use Rattle.ecd_cli.specs.Outcomes.{Outcome, NoEncoding}
 use Rattle.ecd_reader.specs.Takes.{BeginsWith}
-use Rattle.ecd_cli.specs.Causes.{IsRefused, IsCompiledTo, IsAnyNumber, BeginWithItem, BeginWithNone, IsDenied, IsAccepted, IsTextOver, outcome_of_refusal}
+use Rattle.ecd_cli.specs.Causes.{request_for, IsRefused, IsCompiledTo, IsAnyNumber, BeginWithItem, BeginWithNone, IsDenied, IsAccepted, IsTextOver, outcome_of_refusal}
 
-refused_once : (schema root : List ℕ) (o p : Outcome) → IsRefused schema root o → IsRefused schema root p → o ≡ p
-refused_once schema root o p a b =
-    let refusal : a.refusal ≡ b.refusal = one_cause schema root a.refusal b.refusal a.names_cause b.names_cause a.cause b.cause in
-    a.is ∙ ap (outcome_of_refusal schema) refusal ∙ sym b.is
+refused_once : (q : Request) (o p : Outcome) → IsRefused q o → IsRefused q p → o ≡ p
+refused_once q o p a b =
+    let refusal : a.refusal ≡ b.refusal = one_cause q a.refusal b.refusal a.names_cause b.names_cause a.cause b.cause in
+    a.is ∙ ap (outcome_of_refusal q.schema) refusal ∙ sym b.is
 
-refused_or_number : (schema root : List ℕ) (o : Outcome) → IsRefused schema root o → IsAnyNumber schema root → ⊥
-refused_or_number schema root o a b = never_refused schema root b.0 a.refusal b.1 a.names_cause a.cause
+refused_or_number : (q : Request) (o : Outcome) → IsRefused q o → IsAnyNumber q → ⊥
+refused_or_number q o a b = never_refused q b.0 a.refusal b.1 a.names_cause a.cause
 
-compiled_number : (schema root text : List ℕ) → IsCompiledTo schema root text → IsAnyNumber schema root
-compiled_number schema root text t = (t.compiled.number, t.compiled.is_number)
+compiled_number : (q : Request) (text : List ℕ) → IsCompiledTo q text → IsAnyNumber q
+compiled_number q text t = (t.compiled.number, t.compiled.is_number)
 
-none_or_item : (schema root input : List ℕ) → BeginWithNone schema root input → BeginWithItem schema root input → ⊥
-none_or_item schema root input a b =
-    let same : b.0 ≡ a.0 = one_number schema root b.0 a.0 b.1 a.1 in
+none_or_item : (q : Request) (input : List ℕ) → BeginWithNone q input → BeginWithItem q input → ⊥
+none_or_item q input a b =
+    let same : b.0 ≡ a.0 = one_number q b.0 a.0 b.1 a.1 in
     a.2 (subst (λ (n : ℕ). BeginsWith n input) same b.2)
 
-read_once : (schema root input : List ℕ) (o p : Outcome) → IsRefused schema root o ⊎ (BeginWithNone schema root input × (o ≡ NoEncoding)) → IsRefused schema root p ⊎ (BeginWithNone schema root input × (p ≡ NoEncoding)) → o ≡ p
-read_once schema root input o p a b =
+read_once : (q : Request) (input : List ℕ) (o p : Outcome) → IsRefused q o ⊎ (BeginWithNone q input × (o ≡ NoEncoding)) → IsRefused q p ⊎ (BeginWithNone q input × (p ≡ NoEncoding)) → o ≡ p
+read_once q input o p a b =
     ⊎_elim
-    (λ (x : IsRefused schema root o). ⊎_elim
-    (λ (y : IsRefused schema root p). refused_once schema root o p x y)
-    (λ (y : BeginWithNone schema root input × (p ≡ NoEncoding)). absurd (refused_or_number schema root o x (y.0.0, y.0.1))) b)
-    (λ (x : BeginWithNone schema root input × (o ≡ NoEncoding)). ⊎_elim
-    (λ (y : IsRefused schema root p). absurd (refused_or_number schema root p y (x.0.0, x.0.1)))
-    (λ (y : BeginWithNone schema root input × (p ≡ NoEncoding)). x.1 ∙ sym y.1) b)
+    (λ (x : IsRefused q o). ⊎_elim
+    (λ (y : IsRefused q p). refused_once q o p x y)
+    (λ (y : BeginWithNone q input × (p ≡ NoEncoding)). absurd (refused_or_number q o x (y.0.0, y.0.1))) b)
+    (λ (x : BeginWithNone q input × (o ≡ NoEncoding)). ⊎_elim
+    (λ (y : IsRefused q p). absurd (refused_or_number q p y (x.0.0, x.0.1)))
+    (λ (y : BeginWithNone q input × (p ≡ NoEncoding)). x.1 ∙ sym y.1) b)
     a
 
-read_or_item : (schema root input : List ℕ) (o : Outcome) → IsRefused schema root o ⊎ (BeginWithNone schema root input × (o ≡ NoEncoding)) → BeginWithItem schema root input → ⊥
-read_or_item schema root input o a b =
+read_or_item : (q : Request) (input : List ℕ) (o : Outcome) → IsRefused q o ⊎ (BeginWithNone q input × (o ≡ NoEncoding)) → BeginWithItem q input → ⊥
+read_or_item q input o a b =
     ⊎_elim
-    (λ (x : IsRefused schema root o). refused_or_number schema root o x (b.0, b.1))
-    (λ (x : BeginWithNone schema root input × (o ≡ NoEncoding)). none_or_item schema root input x.0 b)
+    (λ (x : IsRefused q o). refused_or_number q o x (b.0, b.1))
+    (λ (x : BeginWithNone q input × (o ≡ NoEncoding)). none_or_item q input x.0 b)
     a
 
 pub denied_once : (asked : Asked) (contents : List (List ℕ)) (o p : Outcome) → IsDenied asked contents o → IsDenied asked contents p → o ≡ p
 denied_once (check s) [] o p a b = absurd a
-denied_once (check s) (x ∷ []) o p a b = refused_once x s.root o p a b
+denied_once (check s) (x ∷ []) o p a b = refused_once (request_for x s) o p a b
 denied_once (check s) (x ∷ y ∷ more) o p a b = absurd a
 denied_once (compile s) [] o p a b = absurd a
-denied_once (compile s) (x ∷ []) o p a b = refused_once x s.root o p a b
+denied_once (compile s) (x ∷ []) o p a b = refused_once (request_for x s) o p a b
 denied_once (compile s) (x ∷ y ∷ more) o p a b = absurd a
 denied_once (read s d) [] o p a b = absurd a
 denied_once (read s d) (x ∷ []) o p a b = absurd a
-denied_once (read s d) (x ∷ y ∷ []) o p a b = read_once x s.root y o p a b
+denied_once (read s d) (x ∷ y ∷ []) o p a b = read_once (request_for x s) y o p a b
 denied_once (read s d) (x ∷ y ∷ z ∷ more) o p a b = absurd a
 denied_once (write s v m) contents o p a b = a ∙ sym b
 denied_once (copy s d m) contents o p a b = a ∙ sym b
@@ -62,14 +63,14 @@ denied_once (sample n) contents o p a b = a ∙ sym b
 
 pub denied_or_accepted : (asked : Asked) (contents : List (List ℕ)) (o : Outcome) → IsDenied asked contents o → IsAccepted asked contents → ⊥
 denied_or_accepted (check s) [] o a b = a
-denied_or_accepted (check s) (x ∷ []) o a b = refused_or_number x s.root o a b
+denied_or_accepted (check s) (x ∷ []) o a b = refused_or_number (request_for x s) o a b
 denied_or_accepted (check s) (x ∷ y ∷ more) o a b = a
 denied_or_accepted (compile s) [] o a b = a
-denied_or_accepted (compile s) (x ∷ []) o a b = refused_or_number x s.root o a b
+denied_or_accepted (compile s) (x ∷ []) o a b = refused_or_number (request_for x s) o a b
 denied_or_accepted (compile s) (x ∷ y ∷ more) o a b = a
 denied_or_accepted (read s d) [] o a b = a
 denied_or_accepted (read s d) (x ∷ []) o a b = a
-denied_or_accepted (read s d) (x ∷ y ∷ []) o a b = read_or_item x s.root y o a b
+denied_or_accepted (read s d) (x ∷ y ∷ []) o a b = read_or_item (request_for x s) y o a b
 denied_or_accepted (read s d) (x ∷ y ∷ z ∷ more) o a b = a
 denied_or_accepted (write s v m) contents o a b = b
 denied_or_accepted (copy s d m) contents o a b = b
@@ -85,7 +86,7 @@ text_accepted (check s) [] text b = b
 text_accepted (check s) (x ∷ []) text b = b.0
 text_accepted (check s) (x ∷ y ∷ more) text b = b
 text_accepted (compile s) [] text b = b
-text_accepted (compile s) (x ∷ []) text b = compiled_number x s.root text b
+text_accepted (compile s) (x ∷ []) text b = compiled_number (request_for x s) text b
 text_accepted (compile s) (x ∷ y ∷ more) text b = b
 text_accepted (read s d) [] text b = b
 text_accepted (read s d) (x ∷ []) text b = b

@@ -3,9 +3,10 @@ use Rattle.std.proofs.Common.{◌≡◌, ℕ, ◌≤◌, ◌⊎◌, ⊎_elim, in
 use Rattle.std.specs.Prelude.{Result, Ok, Err, IfOk}
 use Rattle.ecd_outside.specs.Told.{Told, IsLonger, IsMissing, MayFail}
 use Rattle.ecd_outside.specs.Causes.{Rose}
-use Rattle.ecd_compile.specs.declared.refusal.Refusal.{Refusal}
-use Rattle.ecd_compile.specs.declared.refusal.Refusal.TheVariants as refusals
-use Rattle.ecd_compile.specs.Schema.{IsTold}
+use Rattle.ecd_judge.specs.declared.refusal.Refusal.{Refusal}
+use Rattle.ecd_judge.specs.declared.refusal.Refusal.TheVariants as refusals
+use Rattle.ecd_judge.specs.Request.{Request}
+use Rattle.ecd_judge.specs.Schema.{IsTold}
 use Rattle.ecd_cast.specs.declared.tree.Program.{Program}
 use Rattle.ecd_cli.specs.Asked.{Asked, SchemaAsked, read, run}
 use Rattle.ecd_cast.specs.Validity.{IsValid}
@@ -13,7 +14,7 @@ use Rattle.ecd_cast.specs.Spelling.{IsSpelling}
 use Rattle.ecd_cli.specs.Calls.{IsHalted, IsNotRun, HasNoProgram, BreaksRule}
 use Rattle.ecd_cli.specs.Outcomes.{Outcome, Done, NoEncoding, Usage, ReadFault, WriteFault, TooLarge, OutOfMemory, NotBuilt}
 use Rattle.ecd_cli.specs.Files.{Wanted, files_of, IsRead, AreRead, IsTooLarge, IsOneMissing}
-use Rattle.ecd_cli.specs.Causes.{IsRefused, IsRefusedOrWants, IsUnread, BeginWithNone, IsDenied, IsDue, IsDecided, MayFailToRead, HasNoText, outcome_of_refusal}
+use Rattle.ecd_cli.specs.Causes.{request_for, IsRefused, IsRefusedOrWants, IsUnread, BeginWithNone, IsDenied, IsDue, IsDecided, MayFailToRead, HasNoText, outcome_of_refusal}
 
 -- a refusal that is due is no end of another kind
 decided_only : (told : Told) (asked : Asked) (before now : ℕ) (o : Outcome) → IsDecided o → IsDue told asked o → HasNoText told asked before now o
@@ -65,16 +66,16 @@ refusal_decided schema (refusals.Name p r) is = tt
 refusal_decided schema refusals.NotBuilt is = tt
 refusal_decided schema refusals.OutOfMemory is = absurd is
 
-pub refused_decided : (schema root : List ℕ) (o : Outcome) → IsRefused schema root o → IsDecided o
-refused_decided schema root o r = subst IsDecided (sym r.is) (refusal_decided schema r.refusal r.names_cause)
+pub refused_decided : (q : Request) (o : Outcome) → IsRefused q o → IsDecided o
+refused_decided q o r = subst IsDecided (sym r.is) (refusal_decided q.schema r.refusal r.names_cause)
 
 -- the schema is refused, once the files are read
-pub refused_has_none : (told : Told) (asked : Asked) (schema root : List ℕ) (contents : List (List ℕ)) (before now : ℕ) (o : Outcome)
-    → AreRead told (files_of asked) contents → (IsRefused schema root o → IsDenied asked contents o) → IsRefusedOrWants schema root o → HasNoText told asked before now o
-refused_has_none told asked schema root contents before now o are denied refused =
+pub refused_has_none : (told : Told) (asked : Asked) (q : Request) (contents : List (List ℕ)) (before now : ℕ) (o : Outcome)
+    → AreRead told (files_of asked) contents → (IsRefused q o → IsDenied asked contents o) → IsRefusedOrWants q o → HasNoText told asked before now o
+refused_has_none told asked q contents before now o are denied refused =
     ⊎_elim
     (λ (x : o ≡ OutOfMemory). wants_only told asked before now o x)
-    (λ (x : IsRefused schema root o). decided_only told asked before now o (refused_decided schema root o x) (inr record { contents = contents; are_read = are; denied = denied x }))
+    (λ (x : IsRefused q o). decided_only told asked before now o (refused_decided q o x) (inr record { contents = contents; are_read = are; denied = denied x }))
     refused
 
 pub unbuilt_has_none : (told : Told) (asked : Asked) (before now : ℕ) → AreRead told (files_of asked) [] → IsDenied asked [] NotBuilt → HasNoText told asked before now NotBuilt
@@ -109,7 +110,7 @@ second_has_none told asked first second bytes before between now o files is_read
     (later_unread told second before between now o le unread)
 
 -- the data begin with no item
-pub none_has_none : (told : Told) (s : SchemaAsked) (d schema input : List ℕ) (before now : ℕ) → AreRead told (files_of (read s d)) (schema ∷ input ∷ []) → BeginWithNone schema s.root input
+pub none_has_none : (told : Told) (s : SchemaAsked) (d schema input : List ℕ) (before now : ℕ) → AreRead told (files_of (read s d)) (schema ∷ input ∷ []) → BeginWithNone (request_for schema s) input
     → HasNoText told (read s d) before now NoEncoding
 none_has_none told s d schema input before now are none = decided_only told (read s d) before now NoEncoding tt (inr record { contents = schema ∷ input ∷ []; are_read = are; denied = inr (none, refl) })
 

@@ -4,13 +4,15 @@ use Rattle.std.specs.Io.KnownBytes.{append_known}
 use Rattle.ecd_outside.specs.Causes.{IsFaultFree, Rose}
 use Rattle.ecd_outside.specs.Told.{Told, IsLonger, MayFail, AppendsFront}
 use Rattle.ecd_lex.specs.Places.{line_of as line_at, column_of as column_at}
-use Rattle.ecd_compile.specs.declared.refusal.Refusal.{Refusal}
-use Rattle.ecd_compile.specs.declared.refusal.Refusal.TheVariants as refusals
-use Rattle.ecd_compile.specs.Schema.{IsNumber, IsTold, HasCause}
+use Rattle.ecd_judge.specs.declared.refusal.Refusal.{Refusal}
+use Rattle.ecd_judge.specs.declared.refusal.Refusal.TheVariants as refusals
+use Rattle.ecd_judge.specs.Request.{Request, request}
+use Rattle.ecd_judge.specs.Schema.{IsTold}
+use Rattle.ecd_compile.specs.Schema.{IsNumber, HasCause}
 use Rattle.ecd_compile.specs.Reads.{IsCompiled}
 use Rattle.ecd_cast.specs.declared.tree.Program.{Program}
 use Rattle.ecd_reader.specs.Takes.{BeginsWith}
-use Rattle.ecd_cli.specs.Asked.{Asked, check, compile, read, write, copy, run, sample}
+use Rattle.ecd_cli.specs.Asked.{SchemaAsked, Asked, check, compile, read, write, copy, run, sample}
 use Rattle.ecd_cli.specs.Calls.{IsNotRun, IsRun, IsRunText}
 use Rattle.ecd_cli.specs.Files.{Wanted, files_of, AreRead, IsTooLarge, IsOneMissing}
 use Rattle.ecd_cli.specs.Outcomes.{Outcome, Done, NoEncoding, Broken, Usage, ReadFault, WriteFault, TooLarge, OutOfMemory, NoSpelling, BreaksC, Stuck, Spent, NoFunction, NotBuilt}
@@ -31,28 +33,32 @@ outcome_of_refusal schema (refusals.Name place rule) = broken schema place (code
 outcome_of_refusal schema refusals.NotBuilt = NotBuilt
 outcome_of_refusal schema refusals.OutOfMemory = OutOfMemory
 
+-- what is asked of these bytes of a schema
+abbrev pub request_for : List ℕ → SchemaAsked → Request
+request_for schema s = request schema s.root s.depth
+
 -- the schema is refused for this
-pub record IsRefused (schema root : List ℕ) (outcome : Outcome) : Type 0 where
+pub record IsRefused (q : Request) (outcome : Outcome) : Type 0 where
   pub refusal : Refusal
-  pub cause : HasCause schema root refusal
+  pub cause : HasCause q refusal
   pub names_cause : IsTold refusal
-  pub is : outcome ≡ outcome_of_refusal schema refusal
+  pub is : outcome ≡ outcome_of_refusal q.schema refusal
 
 -- the schema is compiled to the text
-pub record IsCompiledTo (schema root text : List ℕ) : Type 0 where
+pub record IsCompiledTo (q : Request) (text : List ℕ) : Type 0 where
   pub program : Program
-  pub compiled : IsCompiled schema root text program
+  pub compiled : IsCompiled q text program
 
 -- ---- data: the schemas that are taken so far are one small number
 
-abbrev pub IsAnyNumber : List ℕ → List ℕ → Type 0
-IsAnyNumber schema root = (number : ℕ) × IsNumber schema root number
+abbrev pub IsAnyNumber : Request → Type 0
+IsAnyNumber q = (number : ℕ) × IsNumber q number
 
-abbrev pub BeginWithItem : List ℕ → List ℕ → List ℕ → Type 0
-BeginWithItem schema root input = (number : ℕ) × IsNumber schema root number × BeginsWith number input
+abbrev pub BeginWithItem : Request → List ℕ → Type 0
+BeginWithItem q input = (number : ℕ) × IsNumber q number × BeginsWith number input
 
-abbrev pub BeginWithNone : List ℕ → List ℕ → List ℕ → Type 0
-BeginWithNone schema root input = (number : ℕ) × IsNumber schema root number × (BeginsWith number input → ⊥)
+abbrev pub BeginWithNone : Request → List ℕ → Type 0
+BeginWithNone q input = (number : ℕ) × IsNumber q number × (BeginsWith number input → ⊥)
 
 -- ---- commands over the contents of their files
 
@@ -66,9 +72,9 @@ OfTwo _ P = ⊥
 
 -- what is asked for over these contents is refused for this
 abbrev pub IsDenied : Asked → List (List ℕ) → Outcome → Type 0
-IsDenied (check s) contents outcome = OfOne contents (λ schema. IsRefused schema s.root outcome)
-IsDenied (compile s) contents outcome = OfOne contents (λ schema. IsRefused schema s.root outcome)
-IsDenied (read s d) contents outcome = OfTwo contents (λ schema input. IsRefused schema s.root outcome ⊎ (BeginWithNone schema s.root input × (outcome ≡ NoEncoding)))
+IsDenied (check s) contents outcome = OfOne contents (λ schema. IsRefused (request_for schema s) outcome)
+IsDenied (compile s) contents outcome = OfOne contents (λ schema. IsRefused (request_for schema s) outcome)
+IsDenied (read s d) contents outcome = OfTwo contents (λ schema input. IsRefused (request_for schema s) outcome ⊎ (BeginWithNone (request_for schema s) input × (outcome ≡ NoEncoding)))
 IsDenied (write s v cap) contents outcome = outcome ≡ NotBuilt
 IsDenied (copy s d cap) contents outcome = outcome ≡ NotBuilt
 IsDenied (run c f d steps) contents outcome = OfTwo contents (λ c_text input. IsNotRun c_text f input steps outcome)
@@ -76,9 +82,9 @@ IsDenied (sample n) contents outcome = outcome ≡ NotBuilt
 
 -- what is asked for over these contents has a text
 abbrev pub IsAccepted : Asked → List (List ℕ) → Type 0
-IsAccepted (check s) contents = OfOne contents (λ schema. IsAnyNumber schema s.root)
-IsAccepted (compile s) contents = OfOne contents (λ schema. IsAnyNumber schema s.root)
-IsAccepted (read s d) contents = OfTwo contents (λ schema input. BeginWithItem schema s.root input)
+IsAccepted (check s) contents = OfOne contents (λ schema. IsAnyNumber (request_for schema s))
+IsAccepted (compile s) contents = OfOne contents (λ schema. IsAnyNumber (request_for schema s))
+IsAccepted (read s d) contents = OfTwo contents (λ schema input. BeginWithItem (request_for schema s) input)
 IsAccepted (write s v cap) contents = ⊥
 IsAccepted (copy s d cap) contents = ⊥
 IsAccepted (run c f d steps) contents = OfTwo contents (λ c_text input. IsRun c_text f input steps)
@@ -86,9 +92,9 @@ IsAccepted (sample n) contents = ⊥
 
 -- what is asked for over these contents is this text
 abbrev pub IsTextOver : Asked → List (List ℕ) → List ℕ → Type 0
-IsTextOver (check s) contents text = OfOne contents (λ schema. IsAnyNumber schema s.root × (text ≡ codes "ok\n"))
-IsTextOver (compile s) contents text = OfOne contents (λ schema. IsCompiledTo schema s.root text)
-IsTextOver (read s d) contents text = OfTwo contents (λ schema input. BeginWithItem schema s.root input × (text ≡ codes "1 _\n"))
+IsTextOver (check s) contents text = OfOne contents (λ schema. IsAnyNumber (request_for schema s) × (text ≡ codes "ok\n"))
+IsTextOver (compile s) contents text = OfOne contents (λ schema. IsCompiledTo (request_for schema s) text)
+IsTextOver (read s d) contents text = OfTwo contents (λ schema input. BeginWithItem (request_for schema s) input × (text ≡ codes "1 _\n"))
 IsTextOver (write s v cap) contents text = ⊥
 IsTextOver (copy s d cap) contents text = ⊥
 IsTextOver (run c f d steps) contents text = OfTwo contents (λ c_text input. IsRunText c_text f input steps text)
@@ -157,8 +163,8 @@ IsUnread told file before now outcome =
     (outcome ≡ OutOfMemory) ⊎ (((outcome ≡ ReadFault) × MayFail told file.name before now) ⊎ ((outcome ≡ TooLarge file.name) × IsLonger told file.name file.limit))
 
 -- want of memory, or the schema is refused
-abbrev pub IsRefusedOrWants : List ℕ → List ℕ → Outcome → Type 0
-IsRefusedOrWants schema root outcome = (outcome ≡ OutOfMemory) ⊎ IsRefused schema root outcome
+abbrev pub IsRefusedOrWants : Request → Outcome → Type 0
+IsRefusedOrWants q outcome = (outcome ≡ OutOfMemory) ⊎ IsRefused q outcome
 
 -- ---- what is written
 

@@ -1,7 +1,8 @@
 //! Schemas that are compiled, and the answers to those that are refused.
 
 ghost use Rattle.std.specs.Prelude.{◌≡◌, ◌≤◌, IfOk, IfErr, length};
-ghost use Rattle.ecd_compile.specs.Schema.{StandsWithin};
+ghost use Rattle.ecd_judge.specs.Request.{request};
+ghost use Rattle.ecd_judge.specs.Schema.{StandsWithin};
 ghost use Rattle.ecd_compile.specs.Reads.{IsCompiled};
 ghost use Rattle.ecd_cli.specs.Causes.{broken as broken_at, outcome_of_refusal, IsRefusedOrWants};
 ghost use Rattle.ecd_cli.specs.Answers.{outcome_of};
@@ -52,8 +53,8 @@ pub fn compile_schema(
 ) -> Result<Compiled, Answer<'static>>
     requires short { length schema.now ≤ MOST_BYTES }
     requires shallow { words.now.depth ≤ 32 }
-    ensures compiled { IfOk result (λ c. IsCompiled schema.now words.now.root.now c.text c.program) }
-    ensures refused { IfErr result (λ answer. IsRefusedOrWants schema.now words.now.root.now (outcome_of answer)) }
+    ensures compiled { IfOk result (λ c. IsCompiled (request schema.now words.now.root.now words.now.depth) c.text c.program) }
+    ensures refused { IfErr result (λ answer. IsRefusedOrWants (request schema.now words.now.root.now words.now.depth) (outcome_of answer)) }
 {
     match compile(alloc, schema, words.root, words.depth) {
         Ok(compiled) => Ok(compiled),

@@ -44,26 +44,3 @@ pub fn consumed(alloc: Global, program: &Valid, input: &[u8]) -> Result<u64, Out
         Err(_) => Err(OutOfMemory),
     }
 }
-
-#[cfg(test)]
-mod tests {
-    use super::*;
-    use ecd_compile::compile;
-    use std::test::Fail;
-
-    #[test]
-    fn one_byte_is_taken_where_it_is_the_number(rt: HostRuntime) -> Result<(), Fail> {
-        let compiled = compile(rt.alloc(), b"x = 5", "x", 0).ok();
-        let compiled = compiled.ok_or("refused")?;
-        for (input, taken) in [
-            (b"".as_slice(), 0),
-            (b"\x05".as_slice(), 1),
-            (b"\x05\x06".as_slice(), 1),
-            (b"\x06\x05".as_slice(), 0),
-        ] {
-            let found = consumed(rt.alloc(), &compiled.program, input)?;
-            assert_eq!(rt; found, taken, "{input:?}");
-        }
-        Ok(())
-    }
-}

@@ -1,8 +1,10 @@
-//! Rows of schemas: lexemes, trees, uses of names, the prelude, bodies, names, and the graphs that names are judged by.
+//! Rows of schemas: lexemes, trees, uses of names, the prelude, bodies, names, the graphs that names are judged by, and compiled readers.
 #![tactic(auto)]
 
 #[cfg(test)]
 mod bodies;
+#[cfg(test)]
+mod compiled;
 #[cfg(test)]
 mod grammar;
 #[cfg(test)]
@@ -15,3 +17,5 @@ mod names;
 mod prelude;
 #[cfg(test)]
 mod uses;
+#[cfg(test)]
+mod vectors;

@@ -5,14 +5,14 @@ use Rattle.std.proofs.lemmas.List.{take_more}
 use Rattle.hex.specs.Hex.{decode_of}
 use Rattle.hex.proofs.HexLemmas.{decode_of-ok}
 use Rattle.ecd_cast.specs.declared.tree.Program.{Program}
-use Rattle.ecd_compile.specs.declared.refusal.Refusal.{Refusal}
-use Rattle.ecd_compile.specs.declared.refusal.Refusal.TheVariants.{OutOfMemory}
+use Rattle.ecd_judge.specs.declared.refusal.Refusal.{Refusal}
+use Rattle.ecd_judge.specs.declared.refusal.Refusal.TheVariants.{OutOfMemory}
 use Rattle.ecd_compile.specs.Schema.{IsNumber}
 use Rattle.ecd_compile.specs.Reads.{IsCompiled}
 use Rattle.ecd_compile.proofs.Causes.{one_number}
 use Rattle.ecd_reader.specs.Takes.{BeginsWith, Takes}
 use Rattle.ecd_vectors.specs.declared.case.Case.{Case}
-use Rattle.ecd_vectors.specs.Passing.{IsWithin, Passes, AreVerdicts}
+use Rattle.ecd_vectors.specs.Passing.{request_of, IsWithin, Passes, AreVerdicts}
 
 -- ---- verdicts
 
@@ -64,7 +64,7 @@ equal_bool m n e = grind (arith, e)
 bool_equal : (m n : ℕ) → nat_eq m n ≡ true → m ≡ n
 bool_equal m n e = grind (arith, e)
 
-pub judged : (case : Case) (bytes text : List ℕ) (program : Program) (taken : ℕ) → IsWithin case → decode_of case.bytes.now ≡ Ok bytes → (compiled : IsCompiled case.schema.now case.root.now text program)
+pub judged : (case : Case) (bytes text : List ℕ) (program : Program) (taken : ℕ) → IsWithin case → decode_of case.bytes.now ≡ Ok bytes → (compiled : IsCompiled (request_of case) text program)
     → Takes compiled.number bytes taken → (nat_eq taken case.consumed ≡ true) ↔ Passes case
 judged case bytes text program taken within digits compiled takes = (
   (λ (e : nat_eq taken case.consumed ≡ true). record {
@@ -77,7 +77,7 @@ judged case bytes text program taken within digits compiled takes = (
   }),
   (λ (p : Passes case).
       let same : p.bytes ≡ bytes = cc (sym p.digits ∙ digits) in
-      let number : p.number ≡ compiled.number = one_number case.schema.now case.root.now p.number compiled.number p.is_number compiled.is_number in
+      let number : p.number ≡ compiled.number = one_number (request_of case) p.number compiled.number p.is_number compiled.is_number in
       let takes_bytes : Takes p.number bytes case.consumed = subst (λ (b : List ℕ). Takes p.number b case.consumed) same p.takes in
       let takes_too : Takes compiled.number bytes case.consumed = subst (λ (n : ℕ). Takes n bytes case.consumed) number takes_bytes in
       equal_bool taken case.consumed (takes_once compiled.number bytes taken case.consumed takes takes_too)),
@@ -86,5 +86,5 @@ judged case bytes text program taken within digits compiled takes = (
 pub no_bytes : (case : Case) → ((bytes : List ℕ) → decode_of case.bytes.now ≢ Ok bytes) → (false ≡ true) ↔ Passes case
 no_bytes case none = ((λ (e : false ≡ true). cc), (λ (p : Passes case). absurd (none p.bytes p.digits)))
 
-pub no_schema : (case : Case) → ((number : ℕ) → IsNumber case.schema.now case.root.now number → ⊥) → (false ≡ true) ↔ Passes case
+pub no_schema : (case : Case) → ((number : ℕ) → IsNumber (request_of case) number → ⊥) → (false ≡ true) ↔ Passes case
 no_schema case none = ((λ (e : false ≡ true). cc), (λ (p : Passes case). absurd (none p.number p.is_number)))

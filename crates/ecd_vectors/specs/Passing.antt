@@ -2,10 +2,15 @@
 use Rattle.std.specs.Prelude.{ℕ, ◌≡◌, ◌≤◌, ◌<◌, ◌↔◌, Bool, true, false, List, [], ◌∷◌, Option, Some, None, Ok, length, get_or}
 use Rattle.std.specs.List.{count_by}
 use Rattle.hex.specs.Hex.{decode_of}
+use Rattle.ecd_judge.specs.Request.{Request, request}
 use Rattle.ecd_compile.specs.Schema.{IsNumber}
 use Rattle.ecd_reader.specs.Takes.{Takes}
 use Rattle.ecd_vectors.specs.declared.case.Case.{Case}
 use Rattle.ecd_vectors.specs.declared.report.Report.{Report}
+
+-- what a case asks of its schema
+abbrev pub request_of : Case → Request
+request_of case = request case.schema.now case.root.now case.depth
 
 -- the case is within the limits
 pub record IsWithin (case : Case) : Type 0 where
@@ -19,7 +24,7 @@ pub record Passes (case : Case) : Type 0 where
   pub bytes : List ℕ
   pub digits : decode_of case.bytes.now ≡ Ok bytes
   pub number : ℕ
-  pub is_number : IsNumber case.schema.now case.root.now number
+  pub is_number : IsNumber (request_of case) number
   pub takes : Takes number bytes case.consumed
 
 -- a verdict for each case, true exactly where it passes

@@ -6,6 +6,7 @@ use Rattle.ecd_compile.specs.declared.Compiled.{Compiled}
 use Rattle.ecd_compile.specs.Schema.{IsNumber}
 use Rattle.ecd_compile.specs.Reads.{IsCompiled}
 use Rattle.ecd_vectors.specs.declared.case.Case.{Case}
+use Rattle.ecd_vectors.specs.Passing.{request_of}
 
 -- the bytes of the digits, or none where they are those of no bytes
 abbrev pub IsDecoded : {A : Type 0} → List ℕ → Option (Vec ℕ A) → Type 0
@@ -14,5 +15,5 @@ IsDecoded digits (Some bytes) = decode_of digits ≡ Ok bytes.items
 
 -- the compiled schema, or none where it cannot be compiled
 abbrev pub IsOfCase : Case → Option Compiled → Type 0
-IsOfCase case None = (number : ℕ) → IsNumber case.schema.now case.root.now number → ⊥
-IsOfCase case (Some compiled) = IsCompiled case.schema.now case.root.now compiled.text compiled.program
+IsOfCase case None = (number : ℕ) → IsNumber (request_of case) number → ⊥
+IsOfCase case (Some compiled) = IsCompiled (request_of case) compiled.text compiled.program

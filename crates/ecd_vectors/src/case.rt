@@ -1,7 +1,7 @@
 //! One case.
 
 ghost use Rattle.std.specs.Prelude.{◌≡◌, ◌↔◌, ◌≤◌, ◌<◌, ◌^◌, true, IfOk, IfSome, length};
-ghost use Rattle.ecd_compile.specs.declared.refusal.Refusal.{Refusal};
+ghost use Rattle.ecd_judge.specs.declared.refusal.Refusal.{Refusal};
 ghost use Rattle.ecd_vectors.specs.Passing.{Passes, IsWithin};
 ghost use Rattle.ecd_vectors.specs.Steps.{IsDecoded, IsOfCase};
 

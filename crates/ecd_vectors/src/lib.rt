@@ -8,6 +8,3 @@ pub mod tables;
 pub use case::Case;
 pub use ecd_list::OutOfMemory;
 pub use report::{Report, check_cases};
-
-#[cfg(test)]
-mod tests;

@@ -2,7 +2,7 @@ use Rattle.std.proofs.Common.{[], ◌∷◌, refl}
 use Rattle.std.specs.Prelude.{codes}
 use Rattle.ecd_cli.specs.Asked.{check}
 use Rattle.ecd_cli.specs.Commands.{schema_asked}
-use Rattle.ecd_cli.specs.Causes.{IsText}
+use Rattle.ecd_cli.specs.Causes.{request_for, IsText}
 use Rattle.ecd_cli.specs.Answers.{outcome_of}
 use Rattle.ecd_cli.proofs.Texts.{refused_has_none, ok_text}
 use Rattle.ecd_cli.proofs.commands.check_text.Goals as goal
@@ -11,7 +11,7 @@ pub returns-in-Err-clause-none : goal.returns-in-Err-clause-none
 returns-in-Err-clause-none g c =
     let f = g.F.Files in
     let s = schema_asked c.args.words.now in
-    refused_has_none (f.told c.args.files.now) (check s) c.in_ok-schema.schema s.root (c.in_ok-schema.schema ∷ []) (f.faults c.args.files.now) (f.faults c.contents_of.new.files) (outcome_of c.in-Err.answer)
+    refused_has_none (f.told c.args.files.now) (check s) (request_for c.in_ok-schema.schema s) (c.in_ok-schema.schema ∷ []) (f.faults c.args.files.now) (f.faults c.contents_of.new.files) (outcome_of c.in-Err.answer)
     (c.in_ok-schema.ensures.is_read, tt) (λ is. is) (rw c.as_slice.ensures at c.in-Err.ensures.refused)
 
 pub returns-clause-text : goal.returns-clause-text

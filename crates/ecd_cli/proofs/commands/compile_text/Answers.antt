@@ -1,6 +1,7 @@
 use Rattle.std.proofs.Common.{[], ◌∷◌}
 use Rattle.ecd_cli.specs.Asked.{compile}
 use Rattle.ecd_cli.specs.Commands.{schema_asked}
+use Rattle.ecd_cli.specs.Causes.{request_for}
 use Rattle.ecd_cli.specs.Answers.{outcome_of}
 use Rattle.ecd_cli.proofs.Texts.{refused_has_none}
 use Rattle.ecd_cli.proofs.commands.compile_text.Goals as goal
@@ -9,7 +10,7 @@ pub returns-in-Err-clause-none : goal.returns-in-Err-clause-none
 returns-in-Err-clause-none g c =
     let f = g.F.Files in
     let s = schema_asked c.args.words.now in
-    refused_has_none (f.told c.args.files.now) (compile s) c.in_ok-schema.schema s.root (c.in_ok-schema.schema ∷ []) (f.faults c.args.files.now) (f.faults c.contents_of.new.files) (outcome_of c.in-Err.answer)
+    refused_has_none (f.told c.args.files.now) (compile s) (request_for c.in_ok-schema.schema s) (c.in_ok-schema.schema ∷ []) (f.faults c.args.files.now) (f.faults c.contents_of.new.files) (outcome_of c.in-Err.answer)
     (c.in_ok-schema.ensures.is_read, tt) (λ is. is) (rw c.as_slice.ensures at c.in-Err.ensures.refused)
 
 pub returns-clause-text : goal.returns-clause-text

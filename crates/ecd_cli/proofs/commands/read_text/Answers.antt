@@ -2,7 +2,7 @@ use Rattle.std.proofs.Common.{◌≡◌, ⊎_elim, inl, [], ◌∷◌, refl, ari
 use Rattle.std.specs.Prelude.{codes}
 use Rattle.ecd_cli.specs.Asked.{read}
 use Rattle.ecd_cli.specs.Commands.{schema_asked}
-use Rattle.ecd_cli.specs.Causes.{IsText}
+use Rattle.ecd_cli.specs.Causes.{request_for, IsText}
 use Rattle.ecd_reader.specs.Takes.{BeginsWith, Takes}
 use Rattle.ecd_cli.specs.Answers.{outcome_of}
 use Rattle.ecd_cli.proofs.Texts.{refused_has_none, none_has_none, ok_text}
@@ -12,7 +12,7 @@ pub returns-in-Err-compile_schema-clause-none : goal.returns-in-Err-compile_sche
 returns-in-Err-compile_schema-clause-none g c =
     let f = g.F.Files in
     let s = schema_asked c.args.words.now in
-    refused_has_none (f.told c.args.files.now) (read s c.args.name.now) c.in_ok-schema.schema s.root (c.in_ok-schema.schema ∷ c.in-Ok.input ∷ []) (f.faults c.args.files.now) (f.faults c.contents_of-2.new.files)
+    refused_has_none (f.told c.args.files.now) (read s c.args.name.now) (request_for c.in_ok-schema.schema s) (c.in_ok-schema.schema ∷ c.in-Ok.input ∷ []) (f.faults c.args.files.now) (f.faults c.contents_of-2.new.files)
     (outcome_of c.in-Err-compile_schema.answer)
     (c.in_ok-schema.ensures.is_read, (rw c.contents_of.ensures.told at c.in-Ok.ensures.is_read, tt)) (λ is. inl is) (rw c.as_slice.ensures at c.in-Err-compile_schema.ensures.refused)
 

@@ -1,5 +1,5 @@
 use Rattle.std.proofs.Common.{◌≡◌, true, false}
-use Rattle.ecd_compile.specs.declared.refusal.Refusal.TheVariants.{OutOfMemory}
+use Rattle.ecd_judge.specs.declared.refusal.Refusal.TheVariants.{OutOfMemory}
 use Rattle.ecd_vectors.proofs.Judging.{not_compiled}
 use Rattle.ecd_vectors.proofs.case.compiled_of.Goals as goal
 

@@ -1,6 +1,26 @@
-use super::*;
-use crate::tables::numbers;
+//! Compiled readers on bytes, and tables of such cases.
+
+use ecd_compile::compile;
+use ecd_reader::consumed;
+use ecd_vectors::tables::numbers;
+use ecd_vectors::{Case, Report, check_cases};
 use std::test::Fail;
+
+#[test]
+fn one_byte_is_taken_where_it_is_the_number(rt: HostRuntime) -> Result<(), Fail> {
+    let compiled = compile(rt.alloc(), b"x = 5", "x", 0).ok();
+    let compiled = compiled.ok_or("refused")?;
+    for (input, taken) in [
+        (b"".as_slice(), 0),
+        (b"\x05".as_slice(), 1),
+        (b"\x05\x06".as_slice(), 1),
+        (b"\x06\x05".as_slice(), 0),
+    ] {
+        let found = consumed(rt.alloc(), &compiled.program, input)?;
+        assert_eq!(rt; found, taken, "{input:?}");
+    }
+    Ok(())
+}
 
 fn case(schema: &'static str, depth: u8, bytes: &'static str, consumed: u64) -> Case {
     Case {
