@@ -8,6 +8,7 @@ mod items;
 mod lex;
 mod number;
 mod program;
+mod simple;
 mod statements;
 mod token;
 mod valid;
@@ -16,6 +17,3 @@ pub use ecd_cast::fault::CFault;
 pub use ecd_cbuild::builder::Valid;
 pub use lex::MOST_BYTES;
 pub use valid::read_c;
-
-#[cfg(test)]
-mod tests;
