@@ -10,7 +10,8 @@ use Rattle.std.proofs.lemmas.Slice.Eq.{bytes_eq-Decides}
 use Rattle.ecd_cast.specs.Lexemes.{Lexeme, IsLongest, is_lexeme, is_word, is_digits, is_literal, digits_and_ull, is_sign, is_pair_sign, is_one_sign, begins_word, is_word_byte, is_digit}
 use Rattle.ecd_cgrammar.proofs.Lexing.{some_bytes}
 use Rattle.ecd_cread.specs.declared.token.Token.{Token}
-use Rattle.ecd_cread.specs.Scan.{byte_at, digits_len, is_ull, number_len, sign_len, front_len, Stands, Lexed}
+use Rattle.ecd_text.specs.Bytes.{byte_at}
+use Rattle.ecd_cread.specs.Scan.{digits_len, is_ull, number_len, sign_len, front_len, Stands, Lexed}
 
 pub one_more : (text : List ℕ) (from : ℕ) (ts : List Token) (to : ℕ) (t : Token) → Lexed text from ts to → Stands text to t → Lexed text from (ts ++ t ∷ []) t.end
 one_more text from [] to t h s = (subst (λ (k : ℕ). Stands text k t) (sym h) s, refl)

@@ -1,12 +1,9 @@
 -- How far the lexeme at the front of a text goes, and a text as tokens.
-use Rattle.std.specs.Prelude.{ℕ, ◌+◌, ◌-◌, ◌≡◌, ◌<◌, ◌≤◌, Bool, ◌&&◌, if◌then◌else◌, nat_eq, List, [], ◌∷◌, length, take, drop, get_or, map, codes}
+use Rattle.std.specs.Prelude.{ℕ, ◌+◌, ◌-◌, ◌≡◌, ◌<◌, ◌≤◌, Bool, ◌&&◌, if◌then◌else◌, nat_eq, List, [], ◌∷◌, length, take, drop, map, codes}
 use Rattle.std.specs.List.{prefix_len, list_any}
 use Rattle.ecd_cast.specs.Lexemes.{Lexeme, is_blank, is_digit, begins_word, is_word_byte, is_one_sign, is_pair_sign}
+use Rattle.ecd_text.specs.Bytes.{byte_at}
 use Rattle.ecd_cread.specs.declared.token.Token.{Token}
-
--- the byte at a place, or 0 behind the end
-abbrev pub byte_at : List ℕ → ℕ → ℕ
-byte_at text at = get_or text at 0
 
 abbrev pub is_bracket : ℕ → Bool
 is_bracket c = list_any (nat_eq c) (codes "(){}[]")

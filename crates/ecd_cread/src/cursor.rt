@@ -8,11 +8,11 @@ ghost use Rattle.ecd_cread.specs.Scan.{lexemes, lexeme_of as lexeme_meant};
 ghost use Rattle.ecd_cread.specs.Reads.{seen_if, passed, Passes, Gives};
 ghost use Rattle.ecd_cread.specs.declared.cursor.Halt.TheVariants.{OutOfMemory as NoMemory};
 
-use crate::lex::{behind, front};
 use crate::number::{depth_value, is_name, is_same, literal_value, operator};
 use crate::token::Token;
 use ecd_cast::tree::{Name, Op};
 use ecd_list::{ByteList, OutOfMemory};
+use ecd_text::{behind, front};
 use std::alloc::Global;
 
 /// Why reading stopped.

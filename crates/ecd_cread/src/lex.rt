@@ -3,35 +3,16 @@
 ghost use Rattle.std.specs.Prelude.{◌≡◌, ◌+◌, ◌≤◌, ◌<◌, length, take, drop, IfOk, IfSome, IfNone, IsTrue};
 ghost use Rattle.std.specs.List.{prefix_len};
 ghost use Rattle.ecd_cast.specs.Lexemes.{is_blank as blank_meant, is_digit as digit_meant, begins_word as begins_meant, is_word_byte as word_meant, is_one_sign as sign_meant, is_pair_sign as pair_meant};
-ghost use Rattle.ecd_cread.specs.Scan.{byte_at as byte_meant, is_bracket as bracket_meant, blanks_len as blanks_meant, digits_len as digits_meant, is_ull as ull_meant, number_len as number_meant, sign_len as sign_len_meant, front_len as front_meant, Stands, AllLexed, Ends};
+ghost use Rattle.ecd_text.specs.Bytes.{byte_at as byte_meant};
+ghost use Rattle.ecd_cread.specs.Scan.{is_bracket as bracket_meant, blanks_len as blanks_meant, digits_len as digits_meant, is_ull as ull_meant, number_len as number_meant, sign_len as sign_len_meant, front_len as front_meant, Stands, AllLexed, Ends};
 
 use crate::token::{Token, TokenList};
 use ecd_list::OutOfMemory;
+use ecd_text::{behind, byte_at};
 use std::alloc::Global;
 
 /// The most bytes that a C text has.
 pub const MOST_BYTES: usize = 67_108_864;
-
-/// The byte at a place, or 0 behind the end.
-fn byte_at(text: &[u8], at: usize) -> u8
-    ensures { result ≡ byte_meant text.now at }
-{
-    text.get(at).copied().unwrap_or(0)
-}
-
-/// What stands behind so many bytes: nothing where there are fewer.
-pub fn behind(text: &[u8], count: usize) -> &[u8]
-    ensures { result.now ≡ drop count text.now }
-{
-    &text[count.min(text.len())..]
-}
-
-/// The first so many bytes: all where there are fewer.
-pub fn front(text: &[u8], count: usize) -> &[u8]
-    ensures { result.now ≡ take count text.now }
-{
-    &text[..count.min(text.len())]
-}
 
 fn is_blank(byte: u8) -> bool
     ensures { result ≡ blank_meant byte }

@@ -8,6 +8,7 @@ mod items;
 mod lex;
 mod number;
 mod program;
+mod simple;
 mod statements;
 mod token;
 mod valid;

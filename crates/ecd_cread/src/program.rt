@@ -9,10 +9,11 @@ ghost use Rattle.ecd_cread.specs.Answers.{Answers, Is, place_or as place_meant};
 use crate::cursor::Halt;
 use crate::fault::TextFault;
 use crate::items::read_tokens;
-use crate::lex::{MOST_BYTES, front, lex};
+use crate::lex::{MOST_BYTES, lex};
 use crate::number::is_same;
 use crate::token::Token;
 use ecd_cast::tree::Program;
+use ecd_text::front;
 use std::alloc::Global;
 
 /// How many statements and expressions may stand inside each other before there is want of memory.
