@@ -2,6 +2,8 @@
 #![tactic(auto)]
 
 #[cfg(test)]
+mod byte_rows;
+#[cfg(test)]
 mod depth_rows;
 #[cfg(test)]
 mod extent_rows;

@@ -12,10 +12,9 @@ ghost use Rattle.ecd_rt.specs.Standing.{FrontIsThere, FrontMeans, LevelIsThere, 
 
 use crate::names::{any_name, items_name, pairs_name};
 use crate::runs::{items_end, pairs_end, text_end};
-use ecd_cast::tree::{CItem, Expr, ExprList, Function, Name, Op, Stmt, StmtList};
+use ecd_cast::tree::{CItem, CItemList, Expr, ExprList, Function, Name, Op, Stmt, StmtList};
 use ecd_cbuild::build::{declare_call, give, name, one, var};
 use ecd_cbuild::builder::Builder;
-use ecd_cast::tree::{CItem, CItemList, Expr, ExprList, Function, Name, Op, Stmt, StmtList};
 use ecd_emit::shorthands::{
     give_variable, let_argument, let_call, let_major, place_args, where_call, where_number,
     window_args, window_params,
