@@ -33,18 +33,6 @@ told_or_wants (Name place rule) = inl tt
 told_or_wants NotBuilt = inl tt
 told_or_wants OutOfMemory = inr refl
 
-pub only_refusal : {A : Type 0} (result : Result A Refusal) (P : A → Type 0) (q : Request) → IfOk result P → IfErr result (λ r. HasCause q r)
-    → ((a : A) (r : Refusal) → P a → IsTold r → HasCause q r → ⊥)
-    → (cause : Refusal) → IsTold cause → HasCause q cause → MatchResult result (λ _. ⊥) (λ r. (r ≡ cause) ⊎ (r ≡ OutOfMemory))
-only_refusal (Ok a) P q ok err none cause told has = none a cause ok told has
-only_refusal (Err r) P q ok err none cause told has =
-    ⊎_elim (λ (t : IsTold r). inl (one_cause q r cause t told err has)) (λ (e : r ≡ OutOfMemory). inr e) (told_or_wants r)
-
-pub only_sound : {A : Type 0} (result : Result A Refusal) (q : Request) (rules : List Rule) → IfErr result (λ r. HasCause q r) → IsSound q rules → IfErr result (λ r. r ≡ OutOfMemory)
-only_sound (Ok a) q rules err is = tt
-only_sound (Err r) q rules err is =
-    ⊎_elim (λ (t : IsTold r). absurd (never_refused q rules r is t err)) (λ (e : r ≡ OutOfMemory). e) (told_or_wants r)
-
 -- ---- what holds for every root and depth
 
 pub only_cause : {A : Type 0} (result : Result A Refusal) (rules_in : A → List Rule) (schema root : List ℕ) (depth : ℕ)
