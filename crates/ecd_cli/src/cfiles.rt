@@ -10,9 +10,9 @@ ghost use Rattle.ecd_cli.specs.Answers.{outcome_of};
 
 use crate::answer::Answer;
 use crate::cells::result_text;
-use ecd_cbuild::builder::Valid;
 use ecd_cast::fault::CFault;
 use ecd_cast::tree::{CItem, ParamKind, StructDecl};
+use ecd_cbuild::builder::Valid;
 use ecd_ceval::{Arg, Block, BlockList, Halt, Machine};
 use ecd_cread::{MOST_BYTES, read_c};
 use ecd_list::{ByteList, OutOfMemory};

@@ -5,12 +5,12 @@ ghost use Rattle.ecd_compile.specs.Reader as spec;
 ghost use Rattle.ecd_cast.specs.Spelling.{IsSpelledProgram};
 ghost use Rattle.ecd_compile.specs.Reads.{ReadsByte, HasInterface};
 
-use ecd_cbuild::build::{binary, give, load, name, one, set_cell, var, when};
-use ecd_cbuild::builder::{Builder, Valid};
 use ecd_cast::tree::{
     CItem, CellInfo, CellKind, Expr, Function, Op, Param, ParamKind, ParamList, Stmt, StmtList,
     StructDecl,
 };
+use ecd_cbuild::build::{binary, give, load, name, one, set_cell, var, when};
+use ecd_cbuild::builder::{Builder, Valid};
 use ecd_list::{List, OutOfMemory};
 use std::alloc::Global;
 
