@@ -1,8 +1,11 @@
 //! Schemas, and what is known of their names.
 
-use super::*;
+use ecd_bodies::RuleTable;
+use ecd_graph::{Edge, add_edge};
 use ecd_lex::{MOST_BYTES, lex};
+use ecd_list::OutOfMemory;
 use ecd_parse::parse;
+use ecd_prelude::socket::{is_group_socket, is_socket};
 use std::alloc::Global;
 use std::test::Fail;
 
@@ -182,12 +185,8 @@ fn sockets_begin_with_a_dollar_sign(rt: HostRuntime) -> Result<(), Fail> {
         ("a$$", false, false),
         ("", false, false),
     ] {
-        assert_eq!(rt; socket::is_socket(name.as_bytes()), is_a_socket, "{name}");
-        assert_eq!(rt;
-            socket::is_group_socket(name.as_bytes()),
-            is_of_a_group,
-            "{name}"
-        );
+        assert_eq!(rt; is_socket(name.as_bytes()), is_a_socket, "{name}");
+        assert_eq!(rt; is_group_socket(name.as_bytes()), is_of_a_group, "{name}");
     }
     Ok(())
 }
@@ -202,9 +201,7 @@ fn an_edge_wants_both_ends(rt: HostRuntime) -> Result<(), Fail> {
         (None, None, 1),
         (Some(3), Some(1), 2),
     ] {
-        edge::add_edge(&mut edges, from, to)
-            .ok()
-            .ok_or("no memory")?;
+        add_edge(&mut edges, from, to).ok().ok_or("no memory")?;
         assert_eq!(rt; edges.len(), count);
     }
     let last = edges.last().map(|edge| (edge.from, edge.to));

@@ -1,6 +1,6 @@
 //! Graphs with known components.
 
-use crate::{Edge, are_among, components, reached};
+use ecd_graph::{Edge, are_among, components, reached};
 use std::alloc::Global;
 use std::test::Fail;
 

@@ -1,8 +1,9 @@
 //! Schemas, and what their names break.
 
-use super::*;
 use ecd_lex::{MOST_BYTES, lex};
+use ecd_names::{NameFault, NameInfo, Names, resolve};
 use ecd_parse::parse;
+use ecd_syntax::Tree;
 use std::alloc::Global;
 use std::test::Fail;
 

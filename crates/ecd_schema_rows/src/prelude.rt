@@ -1,8 +1,8 @@
 //! The text of the prelude, read by the lexer and the parser, beside its rules; and names of floats.
 
-use super::*;
 use ecd_lex::{MOST_BYTES, lex};
 use ecd_parse::parse;
+use ecd_prelude::{is_float_name, prelude};
 use ecd_syntax::{Alts, Assign, Entry, Form, GroupTree, Key, Name, Rule, Type1, WayTree};
 use std::test::Fail;
 

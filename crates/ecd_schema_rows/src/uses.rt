@@ -1,9 +1,12 @@
 //! Schemas, and the sites and leads of their rules as text.
 
-use super::*;
 use ecd_lex::{MOST_BYTES, lex};
+use ecd_list::{List, OutOfMemory};
 use ecd_parse::parse;
-use ecd_syntax::{Alts, Assign, ByteList, Form, GroupTree, Key, Tree, Type1, Type2, WayTree};
+use ecd_syntax::{
+    Alts, Assign, ByteList, Entry, Form, GroupTree, Key, Name, Rule, Tree, Type1, Type2, WayTree,
+};
+use ecd_uses::{Asked, Lead, Site, SiteList, lead, sites};
 use std::alloc::{AllocError, Global};
 use std::test::Fail;
 
