@@ -75,21 +75,21 @@ const READER: &str =
 
 #[test]
 fn a_file_breaks_each_rule_where_it_does(rt: HostRuntime) -> Result<(), Fail> {
-    let early = "uint64_t early(uint64_t a) { uint64_t n = late(a); return n; }";
-    let late = "uint64_t late(uint64_t a) { uint64_t n = m; return n; }";
+    let calls = "uint64_t early(uint64_t a) { uint64_t n = late(a); return n; }
+uint64_t late(uint64_t a) { uint64_t n = m; return n; }";
     let twins = "struct twins { uint64_t v; uint64_t v; };";
     let fill = "uint64_t fill(struct cells *out) { out->w = 0ull; return 1ull; }";
-    for (depth, items, rule, item, statement) in [
-        ("1", [READER, "", "", "", ""], 1, 0, 0),
-        ("1", [CELLS, fill, "", "", ""], 1, 1, 1),
-        ("9", [CELLS, READER, early, late, READER], 3, 2, 1),
-        ("0", [CELLS, CELLS, "", "", ""], 6, 1, 0),
-        ("0", [CELLS, twins, "", "", ""], 6, 1, 0),
-        ("1", [GOOD, GOOD, "", "", ""], 6, 1, 0),
-        ("2", [GOOD, "", "", "", ""], 7, 0, 0),
-        ("1", ["", "", "", "", ""], 7, 0, 0),
+    for (depth, first, second, behind, rule, item, statement) in [
+        ("1", READER, "", "", 1, 0, 0),
+        ("1", CELLS, fill, "", 1, 1, 1),
+        ("9", CELLS, calls, READER, 3, 1, 1),
+        ("0", CELLS, CELLS, "", 6, 1, 0),
+        ("0", CELLS, twins, "", 6, 1, 0),
+        ("1", GOOD, GOOD, "", 6, 1, 0),
+        ("2", GOOD, "", "", 7, 0, 0),
+        ("1", "", "", "", 7, 0, 0),
     ] {
-        let fault = fault_of(rt.alloc(), depth, &items)?;
+        let fault = fault_of(rt.alloc(), depth, &[first, second, behind])?;
         let named = CFault::Rule {
             rule,
             item,
