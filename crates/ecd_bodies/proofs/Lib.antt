@@ -5,8 +5,8 @@ mod Gathering
 mod Tabling
 mod Sockets
 mod Firsts
-mod Marking
-mod Judging
+pub mod Marking
+pub mod Judging
 mod Judged
 mod Bodies
 mod Grouping

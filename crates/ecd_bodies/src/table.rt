@@ -46,7 +46,7 @@ impl RuleTable {
     ///
     /// # Errors
     ///
-    /// `OutOfMemory` where a growth was refused, there are more than 2^32 - 1 rules of the prelude and the text together, or more than 1,000 choices of a
+    /// `OutOfMemory` where a growth was refused, there are more than 2^32 - 1 rules of the prelude and the text together, or more than `MOST_LEVELS` choices of a
     /// type stand each alone in the parenthesis of the one before.
     pub fn new(alloc: Global, tree: Tree) -> Result<RuleTable, OutOfMemory>
         ensures { IfOk result (λ t. t ≡ tree.rules) }

@@ -112,15 +112,11 @@ fn negations(alloc: Global, count: u32) -> Result<Expr, OutOfMemory>
 }
 
 #[test]
-fn expressions_beyond_a_thousand_levels_are_too_deep(rt: HostRuntime) -> Result<(), Fail> {
+fn expressions_beyond_four_hundred_levels_are_too_deep(rt: HostRuntime) -> Result<(), Fail> {
     let alloc = rt.alloc();
-    let deep = fault_of(
-        alloc,
-        declare(alloc, b"n", negations(alloc, 1_000)?)?,
-        done(),
-    )?;
+    let deep = fault_of(alloc, declare(alloc, b"n", negations(alloc, 400)?)?, done())?;
     assert!(rt; deep == Some(CFault::OutOfMemory));
-    let flat = fault_of(alloc, declare(alloc, b"n", negations(alloc, 999)?)?, done())?;
+    let flat = fault_of(alloc, declare(alloc, b"n", negations(alloc, 399)?)?, done())?;
     assert!(rt;
         flat == Some(CFault::Rule {
             rule: 2,
@@ -143,11 +139,11 @@ fn nested(alloc: Global, count: u32) -> Result<Stmt, OutOfMemory>
 }
 
 #[test]
-fn statements_beyond_a_thousand_levels_are_too_deep(rt: HostRuntime) -> Result<(), Fail> {
+fn statements_beyond_four_hundred_levels_are_too_deep(rt: HostRuntime) -> Result<(), Fail> {
     let alloc = rt.alloc();
-    let deep = fault_of(alloc, nested(alloc, 1_000)?, done())?;
+    let deep = fault_of(alloc, nested(alloc, 400)?, done())?;
     assert!(rt; deep == Some(CFault::OutOfMemory));
-    let flat = fault_of(alloc, nested(alloc, 999)?, done())?;
+    let flat = fault_of(alloc, nested(alloc, 399)?, done())?;
     assert!(rt;
         flat == Some(CFault::Rule {
             rule: 6,

@@ -169,7 +169,7 @@ impl Builder {
     ///
     /// # Errors
     ///
-    /// `OutOfMemory` where memory is wanting. These count as that: blocks inside each other in more than 1,000 levels, a function's own block being the first; 2^32 or more items, or variables in one chain of calls.
+    /// `OutOfMemory` where memory is wanting. These count as that: blocks inside each other in more than `MOST_LEVELS` levels, a function's own block being the first; 2^32 or more items, or variables in one chain of calls.
     pub fn push(&mut self, item: CItem) -> Result<(), OutOfMemory>
         requires valid { IsValidAfter self.old item }
         requires spelled { IsSpelledItem item }

@@ -6,12 +6,9 @@ ghost use Rattle.ecd_cast.specs.ByName.{under};
 ghost use Rattle.ecd_cbuild.specs.Chains.{calls_in, variables_in};
 
 use ecd_cast::tree::{CItem, Function, Source, Stmt};
-use ecd_list::OutOfMemory;
+use ecd_list::{MOST_LEVELS, OutOfMemory};
 use std::alloc::Global;
 use std::collections::BTreeMap;
-
-/// The most blocks, or expressions, inside each other that are walked; behind them the stack counts as used up.
-pub const MOST_LEVELS: u32 = 1_000;
 
 /// The longest chain of calls that begins with a function, and the most variables and parameters that the functions of one such chain have together.
 #[derive(Clone, Copy, Debug, Drop)]

@@ -12,11 +12,8 @@ use crate::statements::called;
 use crate::stop::Stop;
 use ecd_cast::tree::CItem;
 use ecd_cast::value::Value;
-use ecd_list::{List, OutOfMemory};
+use ecd_list::{List, MOST_LEVELS, OutOfMemory};
 use std::alloc::Global;
-
-/// How deep calls and blocks stand inside each other at most, for the stack's sake.
-const MOST_LEVELS: u32 = 1000;
 
 /// The value of an argument.
 fn value_of(arg: Arg) -> Value

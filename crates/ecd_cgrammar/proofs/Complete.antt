@@ -14,7 +14,7 @@ use Rattle.ecd_cast.specs.declared.tree.Stmt.TheVariants.{Number as DeclNumber, 
 use Rattle.ecd_cast.specs.Memory.{Name}
 use Rattle.ecd_cast.specs.Lexemes.{Lexeme, is_name}
 use Rattle.ecd_cast.specs.Spelling.{sign, literal, expr_lexemes, operand_lexemes, with_commas, source_lexemes, stmt_lexemes, row_lexemes, IsName, IsSpelledExpr, IsSpelledOperand, AreSpelled, IsSpelledSource, IsSpelledStmt, IsSpelledRow}
-use Rattle.ecd_cgrammar.specs.Reading.{Reader, taken, after, expect, peek, same, begins, literal_of, op_of, is_before, many, up_to, one_or_more, separated, listed, behind_name, load_at, not_at, binary_at, behind_open, expr_layer, expr_at, source_behind, source_at, number_at, pointer_at, assign_at, store_at, set_cell_at, behind_target, block_at, if_at, bound_at, turn_at, for_at, return_at, stmt_layer, stmt_at}
+use Rattle.ecd_cgrammar.specs.Reading.{Reader, taken, deep, after, expect, peek, same, begins, literal_of, op_of, is_before, many, up_to, one_or_more, separated, listed, behind_name, load_at, not_at, binary_at, behind_open, expr_layer, expr_at, source_behind, source_at, number_at, pointer_at, assign_at, store_at, set_cell_at, behind_target, block_at, if_at, bound_at, turn_at, for_at, return_at, stmt_layer, stmt_at}
 use Rattle.ecd_cgrammar.proofs.Layers.{Load-row, Binary-row, Not-row, If-row, For-row}
 use Rattle.ecd_cgrammar.proofs.Tables.{literal_read, literal_no_name, op_read, name_not, literal_not}
 use Rattle.ecd_cgrammar.proofs.Fine.{Fine, fine_taken, fine_deep, fine_after, fine_expect, fine_named, fine_here, fine_past, fine_on_name, fine_on, fine_off, fine_token, fine_stop, fine_more, fine_many}
@@ -142,7 +142,7 @@ mutual
 -- ---- lists
 
 module _ (size n : ℕ) where
-  more_args : (es : List Expr) → AreSpelled es → (rest : List Lexeme) → (k : ℕ) → Fine (many (begins (same (codes ","))) (expect (codes ",") (expr_at n)) k) (flat_map (λ e. codes "," ∷ expr_lexemes e) es ++ codes ")" ∷ rest) es (codes ")" ∷ rest)
+  more_args : (es : List Expr) → AreSpelled es → (rest : List Lexeme) → (k : ℕ) → Fine (many (begins (same (codes ","))) (expect (codes ",") (expr_at n)) deep k) (flat_map (λ e. codes "," ∷ expr_lexemes e) es ++ codes ")" ∷ rest) es (codes ")" ∷ rest)
   more_args es h rest k =
       fine_many (λ e. codes "," ∷ expr_lexemes e) IsSpelledExpr AreSpelled (λ x xs g. (g.0, g.1)) NoArrow (λ x r. refl) (begins (same (codes ","))) (expect (codes ",") (expr_at n))
       (λ x r v f. fine_expect _ (codes ",") _ _ _ (fine_expr x v n r f)) (λ x r v. refl) es (codes ")" ∷ rest) h refl refl k
@@ -233,7 +233,7 @@ module _ (size n : ℕ) where
 
 -- the statements of a block are read wherever they stand
 abbrev ListIsRead : ℕ → ℕ → List Lexeme → List Stmt → Type 0
-ListIsRead size n text ss = (rest : List Lexeme) (m : ℕ) → Fine (many (is_before (codes "}")) (stmt_at size n) m) (text ++ codes "}" ∷ rest) ss (codes "}" ∷ rest)
+ListIsRead size n text ss = (rest : List Lexeme) (m : ℕ) → Fine (many (is_before (codes "}")) (stmt_at size n) deep m) (text ++ codes "}" ∷ rest) ss (codes "}" ∷ rest)
 
 module _ (size n : ℕ) where
   pub fine_block : (text : List Lexeme) (ss : List Stmt) → ListIsRead size n text ss → (rest : List Lexeme) → Fine (block_at size (stmt_at size n)) (codes "{" ∷ (text ++ codes "}" ∷ rest)) ss rest

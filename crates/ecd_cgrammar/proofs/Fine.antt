@@ -4,7 +4,8 @@ use Rattle.std.specs.Prelude.{flat_map}
 use Rattle.ecd_cast.specs.Memory.{Name}
 use Rattle.ecd_cast.specs.Lexemes.{Lexeme}
 use Rattle.ecd_cast.specs.Spelling.{IsName}
-use Rattle.ecd_cgrammar.specs.Reading.{Taken, Halted, Deep, Reader, ◌>>=◌, taken, deep, peek, on, token, after, same, name_of, expect, named, when, many}
+use Rattle.ecd_reading.specs.Reading.{after as then_}
+use Rattle.ecd_cgrammar.specs.Reading.{Taken, Halted, Deep, Reader, taken, deep, peek, on, token, after, same, name_of, expect, named, when, many}
 use Rattle.ecd_cgrammar.proofs.Tables.{same_self}
 
 -- the value is taken and this is left, or what is looked at stands too deep
@@ -16,9 +17,6 @@ fine_taken x ms = record { is = inl refl }
 
 pub fine_deep : {A : Type 0} (x : A) (ms rest : List Lexeme) → Fine deep ms x rest
 fine_deep x ms rest = record { is = inr refl }
-
-abbrev then_ : {A B : Type 0} → Reader A → (A → Reader B) → Reader B
-then_ p q ms = p ms >>= λ x. q x.value x.rest
 
 fine_bind : {A B : Type 0} (p : Reader A) (q : A → Reader B) (x : A) (ms mid : List Lexeme) (y : B) (rest : List Lexeme) → Fine p ms x mid → Fine (q x) mid y rest → Fine (then_ p q) ms y rest
 fine_bind p q x ms mid y rest f g = elim f.is [
@@ -64,17 +62,17 @@ fine_token table m x ms e = record { is = inl (rw e refl) }
 
 -- ---- one after the other
 
-pub fine_stop : {A : Type 0} (test : List Lexeme → Bool) (one : Reader A) (n : ℕ) (ms : List Lexeme) → test ms ≡ false → Fine (many test one n) ms [] ms
+pub fine_stop : {A : Type 0} (test : List Lexeme → Bool) (one : Reader A) (n : ℕ) (ms : List Lexeme) → test ms ≡ false → Fine (many test one deep n) ms [] ms
 unfolding many
 fine_stop test one zero ms e = record { is = inr refl }
 fine_stop test one (suc n) ms e = record { is = inl (rw e refl) }
 
-pub fine_more : {A : Type 0} (test : List Lexeme → Bool) (one : Reader A) (x : A) (xs : List A) (ms mid rest : List Lexeme) → test ms ≡ true → Fine one ms x mid → ((n : ℕ) → Fine (many test one n) mid xs rest) → (n : ℕ) → Fine (many test one n) ms (x ∷ xs) rest
+pub fine_more : {A : Type 0} (test : List Lexeme → Bool) (one : Reader A) (x : A) (xs : List A) (ms mid rest : List Lexeme) → test ms ≡ true → Fine one ms x mid → ((n : ℕ) → Fine (many test one deep n) mid xs rest) → (n : ℕ) → Fine (many test one deep n) ms (x ∷ xs) rest
 unfolding many
 fine_more {A} test one x xs ms mid rest e f g zero = record { is = inr refl }
 fine_more {A} test one x xs ms mid rest e f g (suc n) =
-    let both = fine_bind one (λ (y : A). then_ (many test one n) (λ (ys : List A). taken (y ∷ ys))) x ms mid (x ∷ xs) rest f
-    (fine_bind (many test one n) (λ (ys : List A). taken (x ∷ ys)) xs mid rest (x ∷ xs) rest (g n) (fine_taken (x ∷ xs) rest)) in
+    let both = fine_bind one (λ (y : A). then_ (many test one deep n) (λ (ys : List A). taken (y ∷ ys))) x ms mid (x ∷ xs) rest f
+    (fine_bind (many test one deep n) (λ (ys : List A). taken (x ∷ ys)) xs mid rest (x ∷ xs) rest (g n) (fine_taken (x ∷ xs) rest)) in
     record { is = rw e both.is }
 
 module _ {A : Type 0} (f : A → List Lexeme) (V : A → Type 0) (Vs : List A → Type 0) (parts : (x : A) (xs : List A) → Vs (x ∷ xs) → V x × Vs xs) (Follows : List Lexeme → Type 0) (follows : (x : A) (rest : List Lexeme) → Follows (f x ++ rest))
@@ -83,7 +81,7 @@ module _ {A : Type 0} (f : A → List Lexeme) (V : A → Type 0) (Vs : List A �
   next [] rest h = h
   next (x ∷ xs) rest h = rw (append_assoc (f x) (flat_map f xs) rest) (follows x (flat_map f xs ++ rest))
 
-  pub fine_many : (xs : List A) (rest : List Lexeme) → Vs xs → Follows rest → test rest ≡ false → (n : ℕ) → Fine (many test one n) (flat_map f xs ++ rest) xs rest
+  pub fine_many : (xs : List A) (rest : List Lexeme) → Vs xs → Follows rest → test rest ≡ false → (n : ℕ) → Fine (many test one deep n) (flat_map f xs ++ rest) xs rest
   fine_many [] rest v h e n = fine_stop test one n rest e
   fine_many (x ∷ xs) rest v h e n =
       let p = parts x xs v in

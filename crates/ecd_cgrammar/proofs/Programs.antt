@@ -14,7 +14,7 @@ use Rattle.ecd_cast.specs.declared.tree.Program.{Program}
 use Rattle.ecd_cast.specs.Memory.{Name}
 use Rattle.ecd_cast.specs.Lexemes.{Lexeme}
 use Rattle.ecd_cast.specs.Spelling.{with_commas, stmt_lexemes, stmts_lexemes, param_lexemes, cell_lexemes, item_lexemes, program_lexemes, IsName, IsSpelledStmt, IsSpelledBlock, IsSpelledParamKind, AreSpelledParams, AreSpelledCells, IsSpelledItem, AreSpelledItems, IsSpelledProgram}
-use Rattle.ecd_cgrammar.specs.Reading.{same, begins, expect, depth_of, is_before, is_more, many, one_or_more, separated, listed, stmt_at, param, param_at, cell, cell_at, cells_at, struct_at, function_at, item_at, depth_at, program_at}
+use Rattle.ecd_cgrammar.specs.Reading.{deep, same, begins, expect, depth_of, is_before, is_more, many, one_or_more, separated, listed, stmt_at, param, param_at, cell, cell_at, cells_at, struct_at, function_at, item_at, depth_at, program_at}
 use Rattle.ecd_cgrammar.proofs.Tables.{number_read}
 use Rattle.ecd_cgrammar.proofs.Fine.{Fine, fine_taken, fine_after, fine_expect, fine_named, fine_here, fine_past, fine_token, fine_many}
 use Rattle.ecd_cgrammar.proofs.Complete.{fine_stmt, stmt_goes, two_parts, fine_block}
@@ -88,7 +88,7 @@ fine_struct size x cs n lt h rest =
     rw (two_parts (flat_map cell_lexemes cs) (codes ";" ∷ []) rest (codes "}"))
     (fine_named _ x _ _ _ n (fine_expect _ (codes "{") _ _ _ (fine_after _ _ _ _ _ _ _ (fine_cells size cs lt h (codes ";" ∷ rest)) (fine_expect _ (codes "}") _ _ _ (fine_expect _ (codes ";") _ _ _ (fine_taken _ rest))))))
 
-stmts_fine : (size n : ℕ) (ss : List Stmt) → IsSpelledBlock ss → (rest : List Lexeme) (m : ℕ) → Fine (many (is_before (codes "}")) (stmt_at size n) m) (stmts_lexemes ss ++ codes "}" ∷ rest) ss (codes "}" ∷ rest)
+stmts_fine : (size n : ℕ) (ss : List Stmt) → IsSpelledBlock ss → (rest : List Lexeme) (m : ℕ) → Fine (many (is_before (codes "}")) (stmt_at size n) deep m) (stmts_lexemes ss ++ codes "}" ∷ rest) ss (codes "}" ∷ rest)
 stmts_fine size n ss h rest m =
     fine_many stmt_lexemes IsSpelledStmt IsSpelledBlock (λ x xs g. (g.0, g.1)) Anything (λ x r. tt) (is_before (codes "}")) (stmt_at size n) (λ x r v f. fine_stmt x v size n r) (λ x r v. stmt_goes x v r) ss (codes "}" ∷ rest) h tt refl m
 
@@ -108,9 +108,9 @@ item_goes : (i : CItem) (rest : List Lexeme) → is_more (item_lexemes i ++ rest
 item_goes (AStructDecl s) rest = refl
 item_goes (AFunction f) rest = refl
 
-fine_items : (size n : ℕ) (is : List CItem) → AreSpelledItems is → Fine (many is_more (item_at size (stmt_at size n)) size) (flat_map item_lexemes is) is []
+fine_items : (size n : ℕ) (is : List CItem) → AreSpelledItems is → Fine (many is_more (item_at size (stmt_at size n)) deep size) (flat_map item_lexemes is) is []
 fine_items size n is h =
-    subst (λ (ms : List Lexeme). Fine (many is_more (item_at size (stmt_at size n)) size) ms is []) (append-nil (flat_map item_lexemes is))
+    subst (λ (ms : List Lexeme). Fine (many is_more (item_at size (stmt_at size n)) deep size) ms is []) (append-nil (flat_map item_lexemes is))
     (fine_many item_lexemes IsSpelledItem AreSpelledItems (λ x xs g. (g.0, g.1)) Anything (λ x r. tt) is_more (item_at size (stmt_at size n)) (λ x r v f. fine_item size n x v r) (λ x r v. item_goes x r) is [] h tt refl size)
 
 -- what is spelled is read, unless it stands too deep

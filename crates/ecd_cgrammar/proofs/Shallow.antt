@@ -16,6 +16,8 @@ use Rattle.ecd_cast.specs.declared.tree.CItem.TheVariants.{Struct as AStructDecl
 use Rattle.ecd_cast.specs.Spelling.{expr_lexemes, stmt_lexemes, param_lexemes, cell_lexemes, item_lexemes, IsSpelledExpr, IsSpelledStmt}
 use Rattle.ecd_cast.specs.Memory.{Name}
 use Rattle.ecd_cast.specs.Lexemes.{Lexeme}
+use Rattle.ecd_reading.specs.Reading.{after as then_}
+use Rattle.ecd_reading.proofs.Readers.{ok_is}
 use Rattle.ecd_cgrammar.proofs.Readers.{Good, Spelled}
 use Rattle.ecd_cgrammar.proofs.Sound.{good_comma, good_expr, good_stmt, fits_param, good_param, fits_cell, good_cell, good_item}
 use Rattle.ecd_cgrammar.specs.Reading.{Taken, Halted, Stuck, Deep, Reader, ◌>>=◌, taken, stuck, deep, with_rest, choose, peek, on, token, begins, after, same, name_of, literal_of, op_of, depth_of, expect, named, when, many, is_before, is_more, up_to, one_or_more, separated, listed, behind_name, load_at, not_at, binary_at, behind_open, expr_layer, expr_at, source_behind, source_at, number_at, pointer_at, assign_at, store_at, set_cell_at, behind_target, block_at, if_at, bound_at, turn_at, for_at, return_at, stmt_layer, stmt_at, param, param_at, cell, cell_at, cells_at, struct_at, function_at, item_at, depth_at, program_at}
@@ -25,22 +27,10 @@ pub record Shallow {A : Type 0} (k : ℕ) (p : List Lexeme → Result (Taken A) 
   pub not_deep : (ms : List Lexeme) → length ms < k → p ms ≡ Err Deep → ⊥
   pub no_longer : (ms rest : List Lexeme) (x : A) → p ms ≡ taken x rest → length rest ≤ length ms
 
-abbrev fine : {A : Type 0} → Taken A → Result (Taken A) Halted
-fine t = Ok t
-
-same_taken : {A : Type 0} (t u : Taken A) → fine t ≡ fine u → t ≡ u
-same_taken t u e = cc
-
-rest_of : {A : Type 0} (x y : A) (r s : List Lexeme) → taken x r ≡ taken y s → r ≡ s
-rest_of {A} x y r s e = ap (λ (p : Taken A). p.rest) (same_taken (record { value = x; rest = r }) (record { value = y; rest = s }) e)
-
 shallow_taken : {A : Type 0} (k : ℕ) (x : A) → Shallow k (taken x)
-shallow_taken k x = record { not_deep = λ ms lt h. cc; no_longer = λ ms rest y h. omega (arith, ap length (rest_of x y ms rest h)) }
+shallow_taken k x = record { not_deep = λ ms lt h. cc; no_longer = λ ms rest y h. omega (arith, ap length (ok_is x y ms rest h).1) }
 
 -- ---- one reader behind another
-
-abbrev then_ : {A B : Type 0} → Reader A → (A → Reader B) → Reader B
-then_ p q ms = p ms >>= λ x. q x.value x.rest
 
 module _ (A B : Type 0) (k : ℕ) (p : Reader A) (q : A → Reader B) (first : Shallow k p) (second : (x : A) → Shallow k (q x)) where
   both_not_deep : (ms : List Lexeme) → length ms < k → (o : Result (Taken A) Halted) → p ms ≡ o → (o >>= λ x. q x.value x.rest) ≡ Err Deep → ⊥
@@ -98,11 +88,8 @@ shallow_when : {A : Type 0} (k : ℕ) (l : Lexeme) {p q : Reader A} → Shallow 
 unfolding when
 shallow_when {A} k l {p} {q} f g = picks (Unit {0}) A k (same l) (λ _. p) q (λ _. f) g
 
-abbrev first_then : {A B : Type 0} → (Lexeme → Option A) → (A → Reader B) → Reader B
-first_then table q ms = token table ms >>= λ x. q x.value x.rest
-
 module _ (A B : Type 0) (k : ℕ) (table : Lexeme → Option A) (q : A → Reader B) (next : (x : A) → Shallow k (q x)) where
-  first_not_deep : (ms : List Lexeme) → length ms < suc k → first_then table q ms ≡ Err Deep → ⊥
+  first_not_deep : (ms : List Lexeme) → length ms < suc k → then_ (token table) q ms ≡ Err Deep → ⊥
   first_not_deep [] lt h = cc
   first_not_deep (m ∷ ms) lt h = by_table (table m) h
     where
@@ -110,7 +97,7 @@ module _ (A B : Type 0) (k : ℕ) (table : Lexeme → Option A) (q : A → Reade
       by_table None h = cc
       by_table (Some x) h = (next x).not_deep ms (omega arith) h
 
-  first_no_longer : (ms rest : List Lexeme) (y : B) → first_then table q ms ≡ taken y rest → length rest ≤ length ms
+  first_no_longer : (ms rest : List Lexeme) (y : B) → then_ (token table) q ms ≡ taken y rest → length rest ≤ length ms
   first_no_longer [] rest y h = absurd cc
   first_no_longer (m ∷ ms) rest y h = by_table (table m) h
     where
@@ -118,7 +105,7 @@ module _ (A B : Type 0) (k : ℕ) (table : Lexeme → Option A) (q : A → Reade
       by_table None h = absurd cc
       by_table (Some x) h = omega (arith, (next x).no_longer ms rest y h)
 
-  firsts : Shallow (suc k) (first_then table q)
+  firsts : Shallow (suc k) (then_ (token table) q)
   firsts = record { not_deep = first_not_deep; no_longer = first_no_longer }
 
 shallow_expect : {A : Type 0} (k : ℕ) (l : Lexeme) {q : Reader A} → Shallow k q → Shallow (suc k) (expect l q)
@@ -166,38 +153,38 @@ module _ (A : Type 0) (test : List Lexeme → Bool) (one : Reader A) (k : ℕ) (
   pass x (Err (Stuck rest)) h = absurd cc
   pass x (Err Deep) h = refl
 
-  many_not_deep : (n : ℕ) (ms : List Lexeme) → length ms < n → length ms < k → many test one n ms ≡ Err Deep → ⊥
+  many_not_deep : (n : ℕ) (ms : List Lexeme) → length ms < n → length ms < k → many test one deep n ms ≡ Err Deep → ⊥
   unfolding many
   many_not_deep zero ms lt le h = omega arith
   many_not_deep (suc n) ms lt le h = by_test (λ m a b e. many_not_deep n m a b e) (test ms) h
     where
-      by_one : ((m : List Lexeme) → length m < n → length m < k → many test one n m ≡ Err Deep → ⊥) → (o : Result (Taken A) Halted) → one ms ≡ o → (o >>= λ x. many test one n x.rest >>= λ xs. taken (x.value ∷ xs.value) xs.rest) ≡ Err Deep → ⊥
-      by_one next (Ok x) e g = let less = progress ms x.rest x.value e in next x.rest (omega (arith, less)) (omega (arith, less)) (pass x (many test one n x.rest) g)
+      by_one : ((m : List Lexeme) → length m < n → length m < k → many test one deep n m ≡ Err Deep → ⊥) → (o : Result (Taken A) Halted) → one ms ≡ o → (o >>= λ x. many test one deep n x.rest >>= λ xs. taken (x.value ∷ xs.value) xs.rest) ≡ Err Deep → ⊥
+      by_one next (Ok x) e g = let less = progress ms x.rest x.value e in next x.rest (omega (arith, less)) (omega (arith, less)) (pass x (many test one deep n x.rest) g)
       by_one next (Err (Stuck rest)) e g = cc
       by_one next (Err Deep) e g = f.not_deep ms le e
 
-      by_test : ((m : List Lexeme) → length m < n → length m < k → many test one n m ≡ Err Deep → ⊥) → (b : Bool) → cond b (one ms >>= λ x. many test one n x.rest >>= λ xs. taken (x.value ∷ xs.value) xs.rest) (taken [] ms) ≡ Err Deep → ⊥
+      by_test : ((m : List Lexeme) → length m < n → length m < k → many test one deep n m ≡ Err Deep → ⊥) → (b : Bool) → cond b (one ms >>= λ x. many test one deep n x.rest >>= λ xs. taken (x.value ∷ xs.value) xs.rest) (taken [] ms) ≡ Err Deep → ⊥
       by_test next true g = by_one next (one ms) refl g
       by_test next false g = cc
 
-  many_no_longer : (n : ℕ) (ms rest : List Lexeme) (xs : List A) → many test one n ms ≡ taken xs rest → length rest ≤ length ms
+  many_no_longer : (n : ℕ) (ms rest : List Lexeme) (xs : List A) → many test one deep n ms ≡ taken xs rest → length rest ≤ length ms
   unfolding many
   many_no_longer zero ms rest xs h = absurd cc
   many_no_longer (suc n) ms rest xs h = by_test (λ m r ys e. many_no_longer n m r ys e) (test ms) h
     where
-      by_many : ((m r : List Lexeme) (ys : List A) → many test one n m ≡ taken ys r → length r ≤ length m) → (x : Taken A) → one ms ≡ Ok x → (o : Result (Taken (List A)) Halted) → many test one n x.rest ≡ o → (o >>= λ ys. taken (x.value ∷ ys.value) ys.rest) ≡ taken xs rest → length rest ≤ length ms
-      by_many next x e (Ok ys) i g = omega (arith, progress ms x.rest x.value e, next x.rest ys.rest ys.value i, ap length (rest_of (x.value ∷ ys.value) xs ys.rest rest g))
+      by_many : ((m r : List Lexeme) (ys : List A) → many test one deep n m ≡ taken ys r → length r ≤ length m) → (x : Taken A) → one ms ≡ Ok x → (o : Result (Taken (List A)) Halted) → many test one deep n x.rest ≡ o → (o >>= λ ys. taken (x.value ∷ ys.value) ys.rest) ≡ taken xs rest → length rest ≤ length ms
+      by_many next x e (Ok ys) i g = omega (arith, progress ms x.rest x.value e, next x.rest ys.rest ys.value i, ap length (ok_is (x.value ∷ ys.value) xs ys.rest rest g).1)
       by_many next x e (Err z) i g = absurd cc
 
-      by_one : ((m r : List Lexeme) (ys : List A) → many test one n m ≡ taken ys r → length r ≤ length m) → (o : Result (Taken A) Halted) → one ms ≡ o → (o >>= λ x. many test one n x.rest >>= λ ys. taken (x.value ∷ ys.value) ys.rest) ≡ taken xs rest → length rest ≤ length ms
-      by_one next (Ok x) e g = by_many next x e (many test one n x.rest) refl g
+      by_one : ((m r : List Lexeme) (ys : List A) → many test one deep n m ≡ taken ys r → length r ≤ length m) → (o : Result (Taken A) Halted) → one ms ≡ o → (o >>= λ x. many test one deep n x.rest >>= λ ys. taken (x.value ∷ ys.value) ys.rest) ≡ taken xs rest → length rest ≤ length ms
+      by_one next (Ok x) e g = by_many next x e (many test one deep n x.rest) refl g
       by_one next (Err z) e g = absurd cc
 
-      by_test : ((m r : List Lexeme) (ys : List A) → many test one n m ≡ taken ys r → length r ≤ length m) → (b : Bool) → cond b (one ms >>= λ x. many test one n x.rest >>= λ ys. taken (x.value ∷ ys.value) ys.rest) (taken [] ms) ≡ taken xs rest → length rest ≤ length ms
+      by_test : ((m r : List Lexeme) (ys : List A) → many test one deep n m ≡ taken ys r → length r ≤ length m) → (b : Bool) → cond b (one ms >>= λ x. many test one deep n x.rest >>= λ ys. taken (x.value ∷ ys.value) ys.rest) (taken [] ms) ≡ taken xs rest → length rest ≤ length ms
       by_test next true g = by_one next (one ms) refl g
-      by_test next false g = omega (arith, ap length (rest_of [] xs ms rest g))
+      by_test next false g = omega (arith, ap length (ok_is [] xs ms rest g).1)
 
-  shallow_many : (size : ℕ) → k ≤ size → Shallow k (many test one size)
+  shallow_many : (size : ℕ) → k ≤ size → Shallow k (many test one deep size)
   shallow_many size le = record { not_deep = λ ms lt h. many_not_deep size ms (omega arith) lt h; no_longer = many_no_longer size }
 
 progress_of : {A : Type 0} {f : A → List Lexeme} {V : A → Type 0} {p : Reader A} → Good (Spelled f V) p → ((x : A) → 0 < length (f x)) → Progresses p

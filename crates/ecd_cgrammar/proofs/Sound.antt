@@ -21,12 +21,13 @@ use Rattle.ecd_cast.proofs.Layers.{lexemes-Load, lexemes-Binary, lexemes-Not, le
 use Rattle.ecd_cgrammar.specs.Reading.{Reader, expect, token, same, begins, op_of, depth_of, is_before, is_more, up_to, one_or_more, separated, listed, behind_name, load_at, not_at, binary_at, behind_open, expr_layer, expr_at, source_behind, source_at, number_at, pointer_at, assign_at, store_at, set_cell_at, behind_target, block_at, if_at, bound_at, turn_at, for_at, return_at, stmt_layer, stmt_at, param, param_at, cell, cell_at, cells_at, struct_at, function_at, item_at, depth_at, program_at}
 use Rattle.ecd_cgrammar.proofs.Layers.{spelled-Load, spelled-Binary, spelled-Not, spelled-If, spelled-For}
 use Rattle.ecd_cgrammar.proofs.Tables.{number_is, literal_is, op_is}
-use Rattle.ecd_cgrammar.proofs.Readers.{Example, Good, Spelled, good_weak, good_taken, good_deep, good_after, good_bind, good_on, good_on_name, good_when, good_expect, good_named, good_many, good_table, begins_tests, before_tests, more_tests}
+use Rattle.ecd_reading.proofs.Readers.{good_weak, good_taken, good_deep, begins_tests, more_tests}
+use Rattle.ecd_cgrammar.proofs.Readers.{Example, Good, Spelled, good_after, good_bind, good_on, good_on_name, good_when, good_expect, good_named, good_many, good_table, before_tests}
 
 -- ---- lists
 
 pub good_comma : {A : Type 0} (f : A → List Lexeme) (V : A → Type 0) (one : Reader A) → Good (Spelled f V) one → Good (Spelled (λ y. codes "," ∷ f y) V) (expect (codes ",") one)
-good_comma f V one good = good_expect (codes ",") (good_weak (λ y ms g. (ap (λ (t : List Lexeme). codes "," ∷ t) g.0, g.1)) good)
+good_comma f V one good = good_expect (codes ",") (good_weak one (λ y ms g. (ap (λ (t : List Lexeme). codes "," ∷ t) g.0, g.1)) good)
 
 module _ {A : Type 0} (f : A → List Lexeme) (V : A → Type 0) (Vs : List A → Type 0) (none : Vs []) (more : (x : A) (xs : List A) → V x → Vs xs → Vs (x ∷ xs)) (one : Reader A) (good : Good (Spelled f V) one) where
   good_up_to : (close : Lexeme) (size : ℕ) → Good (Spelled (λ xs. flat_map f xs ++ close ∷ []) Vs) (up_to close one size)
@@ -46,10 +47,10 @@ module _ {A : Type 0} (f : A → List Lexeme) (V : A → Type 0) (Vs : List A �
 -- ---- single lexemes
 
 good_op : Good (Spelled (λ op. sign op ∷ []) (λ op. Unit {0})) (token op_of)
-good_op = good_table op_of (λ op. sign op ∷ []) (λ op. Unit {0}) (λ op m e. (ap (λ (t : Lexeme). t ∷ []) (op_is m op e), tt)) (record { value = Add; text = sign Add ∷ []; spells = (refl, tt) })
+good_op = good_table op_of (λ op. sign op ∷ []) (λ op. Unit {0}) (λ op m e. (ap (λ (t : Lexeme). t ∷ []) (op_is m op e), tt)) (record { value = Add; text = sign Add ∷ []; plain = (tt, tt); spells = (refl, tt) })
 
 good_depth : Good (Spelled (λ n. decimal n ∷ []) (λ n. n < 2 ^ 32)) (token depth_of)
-good_depth = good_table depth_of (λ n. decimal n ∷ []) (λ n. n < 2 ^ 32) (λ n m e. let r = number_is (2 ^ 32) (omega arith) m n e in (ap (λ (t : Lexeme). t ∷ []) r.0, r.1)) (record { value = 0; text = decimal 0 ∷ []; spells = (refl, omega arith) })
+good_depth = good_table depth_of (λ n. decimal n ∷ []) (λ n. n < 2 ^ 32) (λ n m e. let r = number_is (2 ^ 32) (omega arith) m n e in (ap (λ (t : Lexeme). t ∷ []) r.0, r.1)) (record { value = 0; text = decimal 0 ∷ []; plain = (tt, tt); spells = (refl, omega arith) })
 
 -- ---- expressions
 
@@ -86,7 +87,7 @@ module _ (one : Reader Expr) (good : Good E one) where
       (good_expect (codes "(") good_open))
 
 an_expr : Example E
-an_expr = record { value = Number 0; text = literal 0 ∷ []; spells = (refl, omega arith) }
+an_expr = record { value = Number 0; text = literal 0 ∷ []; plain = (tt, tt); spells = (refl, omega arith) }
 
 pub good_expr : (n : ℕ) → Good E (expr_at n)
 unfolding expr_at
@@ -108,7 +109,7 @@ block_lexemes ss = codes "{" ∷ (stmts_lexemes ss ++ codes "}" ∷ [])
 good_block : (size : ℕ) (one : Reader Stmt) → Good S one → Good (Spelled block_lexemes IsSpelledBlock) (block_at size one)
 unfolding block_at
 good_block size one each =
-    good_expect (codes "{") (good_weak (λ ss ms g. (ap (λ (t : List Lexeme). codes "{" ∷ t) g.0, g.1)) (good_up_to stmt_lexemes IsSpelledStmt IsSpelledBlock tt (λ x xs g h. (g, h)) one each (codes "}") size))
+    good_expect (codes "{") (good_weak (up_to (codes "}") one size) (λ ss ms g. (ap (λ (t : List Lexeme). codes "{" ∷ t) g.0, g.1)) (good_up_to stmt_lexemes IsSpelledStmt IsSpelledBlock tt (λ x xs g h. (g, h)) one each (codes "}") size))
 
 module _ (size : ℕ) (e : Reader Expr) (good : Good E e) where
   good_args : Good (Spelled (λ args. with_commas expr_lexemes args ++ codes ")" ∷ []) (λ args. (0 < length args) × AreSpelled args)) (listed e size)
@@ -194,7 +195,7 @@ module _ (size : ℕ) (e : Reader Expr) (good : Good E e) where
         (good_expect (codes "return") good_return)))))
 
 a_stmt : Example S
-a_stmt = record { value = Return (Number 0); text = codes "return" ∷ literal 0 ∷ codes ";" ∷ []; spells = (refl, omega arith) }
+a_stmt = record { value = Return (Number 0); text = codes "return" ∷ literal 0 ∷ codes ";" ∷ []; plain = (tt, (tt, (tt, tt))); spells = (refl, omega arith) }
 
 pub good_stmt : (size n : ℕ) → Good S (stmt_at size n)
 unfolding stmt_at

@@ -6,7 +6,7 @@ use Rattle.ecd_cast.specs.Lexemes.{Lexeme, AreLexemes, Laid, IsLongest, is_lexem
 use Rattle.ecd_cast.specs.Spelling.{IsSpelling, IsSpelledProgram, program_lexemes, first_line}
 use Rattle.ecd_cgrammar.specs.Reading.{Deep, taken, stuck, program_at}
 use Rattle.ecd_cgrammar.specs.Faults.{Begins, NoneGoesOn, Reaches, begins_blank, IsFault, FaultAt}
-use Rattle.ecd_cgrammar.proofs.Readers.{ok_is}
+use Rattle.ecd_reading.proofs.Readers.{ok_is}
 use Rattle.ecd_cgrammar.proofs.Sound.{good_program}
 use Rattle.ecd_cgrammar.proofs.Programs.{fine_program}
 use Rattle.ecd_cast.proofs.Spelled.{program_are}

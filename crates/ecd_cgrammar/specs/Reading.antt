@@ -1,5 +1,5 @@
 -- Reading the lexemes of a program from left to right, up to the first that cannot be taken. The first lexeme of a form, or the one behind its name, decides which form it is.
-use Rattle.std.specs.Prelude.{ℕ, zero, suc, ◌-◌, ◌^◌, Bool, true, false, not, ◌&&◌, List, [], ◌∷◌, length, take, drop, Option, Some, None, Result, Ok, Err, is_some, nat_lt, codes, bytes_eq, if◌then◌else◌}
+use Rattle.std.specs.Prelude.{ℕ, zero, suc, ◌-◌, ◌^◌, Bool, true, false, not, ◌&&◌, List, [], ◌∷◌, length, take, drop, Option, Some, None, nat_lt, codes, bytes_eq}
 use Rattle.std.specs.Str.Parse.{digits_value}
 use Rattle.ecd_cast.specs.declared.tree.Op.{Op}
 use Rattle.ecd_cast.specs.declared.tree.Op.TheVariants.{Add, Sub, Mul, Shl, Shr, BitAnd, BitOr, Eq, Ne, Lt, Le, Gt, Ge, And, Or}
@@ -21,62 +21,28 @@ use Rattle.ecd_cast.specs.declared.tree.Program.{Program}
 use Rattle.ecd_cast.specs.Memory.{Name}
 use Rattle.ecd_cast.specs.Lexemes.{Lexeme, is_name, is_digits}
 use Rattle.ecd_cast.specs.Spelling.{sign}
+use Rattle.ecd_reading.specs.Reading as read
+pub use Rattle.ecd_reading.specs.Reading.{Stuck, Deep, ◌>>=◌, taken, stuck, deep, with_rest, peek, choose, token, begins, is_more}
+unfoldable pub use Rattle.ecd_reading.specs.Reading.{many}
 
 -- ---- readers
 
--- what is read: a value, and the lexemes behind it
-pub record Taken (A : Type 0) : Type 0 where
-  pub value : A
-  pub rest : List Lexeme
+abbrev pub Taken : Type 0 → Type 0
+Taken A = read.Taken Lexeme A
 
--- why nothing is read: the first of these lexemes, or their end, cannot be taken; or more stands inside each other than is looked at
-pub data Halted : Type 0 where
-  Stuck : List Lexeme → Halted
-  Deep : Halted
+abbrev pub Halted : Type 0
+Halted = read.Halted Lexeme
 
 abbrev pub Reader : Type 0 → Type 0
-Reader A = List Lexeme → Result (Taken A) Halted
-
-infixl 10 ◌>>=◌
-abbrev pub ◌>>=◌ : {A B : Type 0} → Result A Halted → (A → Result B Halted) → Result B Halted
-(Ok x) >>= f = f x
-(Err e) >>= f = Err e
-
-abbrev pub taken : {A : Type 0} → A → Reader A
-taken x rest = Ok record { value = x; rest = rest }
-
-abbrev pub stuck : {A : Type 0} → Reader A
-stuck ms = Err (Stuck ms)
-
-abbrev pub deep : {A : Type 0} → Reader A
-deep ms = Err Deep
-
-abbrev pub with_rest : {A : Type 0} → List Lexeme → Option A → Option (Taken A)
-with_rest rest None = None
-with_rest rest (Some x) = Some record { value = x; rest = rest }
-
--- what the table says of the first lexeme
-abbrev pub peek : {A : Type 0} → (Lexeme → Option A) → List Lexeme → Option (Taken A)
-peek table [] = None
-peek table (m ∷ ms) = with_rest ms (table m)
-
-abbrev pub choose : {A B : Type 0} → Option (Taken A) → (A → Reader B) → Reader B → Reader B
-choose None p q ms = q ms
-choose (Some t) p q ms = p t.value t.rest
+Reader A = read.Reader Lexeme A
 
 -- the one behind a lexeme of which the table says something, and else the other
 unfoldable pub on : {A B : Type 0} → (Lexeme → Option A) → (A → Reader B) → Reader B → Reader B
-on table p q ms = choose (peek table ms) p q ms
-
-abbrev pub token : {A : Type 0} → (Lexeme → Option A) → Reader A
-token table ms = choose (peek table ms) taken stuck ms
-
-abbrev pub begins : {A : Type 0} → (Lexeme → Option A) → List Lexeme → Bool
-begins table ms = is_some (peek table ms)
+on table p q ms = read.on table p q ms
 
 -- the one, and then the other
 unfoldable pub after : {A B : Type 0} → Reader A → (A → Reader B) → Reader B
-after p q ms = p ms >>= λ x. q x.value x.rest
+after p q ms = read.after p q ms
 
 -- ---- what a lexeme is: a table for each kind
 
@@ -132,35 +98,26 @@ op_of m = op_among operators m
 
 -- this lexeme, and then the other
 unfoldable pub expect : {A : Type 0} → Lexeme → Reader A → Reader A
-expect l q ms = token (same l) ms >>= λ x. q x.rest
+expect l q ms = read.behind (same l) q ms
 
 -- a name, and then the other
 unfoldable pub named : {A : Type 0} → (Name → Reader A) → Reader A
-named q ms = token name_of ms >>= λ x. q x.value x.rest
+named q ms = read.after (token name_of) q ms
 
 -- the one behind this lexeme, where it stands there, and else the other
 unfoldable pub when : {A : Type 0} → Lexeme → Reader A → Reader A → Reader A
-when l p q ms = choose (peek (same l) ms) (λ _. p) q ms
-
--- one after the other while the test holds, fewer than so many
-unfoldable pub many : {A : Type 0} → (List Lexeme → Bool) → Reader A → ℕ → Reader (List A)
-many test one zero ms = Err Deep
-many test one (suc n) ms = if test ms then (one ms >>= λ x. many test one n x.rest >>= λ xs. taken (x.value ∷ xs.value) xs.rest) else taken [] ms
+when l p q ms = read.on (same l) (λ _. p) q ms
 
 abbrev pub is_before : Lexeme → List Lexeme → Bool
 is_before close ms = not (begins (same close) ms)
 
-abbrev pub is_more : List Lexeme → Bool
-is_more [] = false
-is_more (m ∷ ms) = true
-
--- some, up to the closing lexeme
+-- fewer than so many, up to the closing lexeme
 unfoldable pub up_to : {A : Type 0} → Lexeme → Reader A → ℕ → Reader (List A)
-up_to close one size = after (many (is_before close) one size) (λ xs. expect close (taken xs))
+up_to close one size = after (many (is_before close) one deep size) (λ xs. expect close (taken xs))
 
--- the one, and then more while the test holds
+-- the one, and then fewer than so many while the test holds
 unfoldable pub one_or_more : {A : Type 0} → (List Lexeme → Bool) → Reader A → Reader A → ℕ → Reader (List A)
-one_or_more test next one size = after one (λ x. after (many test next size) (λ xs. taken (x ∷ xs)))
+one_or_more test next one size = after one (λ x. after (many test next deep size) (λ xs. taken (x ∷ xs)))
 
 -- one or more with commas between them
 unfoldable pub separated : {A : Type 0} → Reader A → ℕ → Reader (List A)
@@ -297,4 +254,4 @@ depth_at =
 
 -- a program, up to the end of the lexemes
 unfoldable pub program_at : ℕ → ℕ → Reader Program
-program_at size levels = after depth_at (λ d. after (many is_more (item_at size (stmt_at size levels)) size) (λ items. taken (record { depth = d; items = items })))
+program_at size levels = after depth_at (λ d. after (many is_more (item_at size (stmt_at size levels)) deep size) (λ items. taken (record { depth = d; items = items })))

@@ -1,4 +1,5 @@
-pub mod Sees
+pub mod Taking
+pub mod Firsts
 pub mod Args
 pub mod StmtLayers
 pub mod NameLayers

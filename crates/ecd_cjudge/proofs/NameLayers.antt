@@ -12,17 +12,18 @@ use Rattle.ecd_cast.specs.declared.tree.Expr.{Expr}
 use Rattle.ecd_cast.specs.declared.tree.Stmt.{Stmt, Row_of-Stmt, end_of-Stmt, more_of-Stmt, items-the_row-Stmt, items_hidden-the_row-Stmt-0}
 use Rattle.ecd_cast.specs.declared.tree.Stmt.TheVariants.{If, For}
 use Rattle.ecd_cast.specs.declared.tree.Stmt.TheBlock as stmts
-use Rattle.ecd_cjudge.specs.declared.first.First.{First}
+use Rattle.ecd_first.specs.declared.first.First.{First}
+use Rattle.ecd_cjudge.specs.declared.spot.Spot.{Spot}
 use Rattle.ecd_cast.specs.Memory.{Name}
 use Rattle.ecd_cast.specs.Meaning.{Place, shifted, count_of, count_in}
 use Rattle.ecd_cast.specs.Meaning.{count_all}
 use Rattle.ecd_cast.specs.Kinds.{unless}
 use Rattle.ecd_cast.specs.Validity.{Naming, at_place, is_among, twice, named_by, named_in, named_in_row, head_names, returns, row_returns, block_returns}
-use Rattle.ecd_cjudge.specs.First.{Finds}
+use Rattle.ecd_cjudge.specs.Faults.{Finds}
 use Rattle.ecd_cast.specs.ByName.{has}
 use Rattle.ecd_cjudge.specs.Names.{names_after, Holds, Named}
 use Rattle.ecd_cast.proofs.Layers.{count-hidden}
-use Rattle.ecd_cjudge.proofs.Sees.{sees_then, sees_same}
+use Rattle.ecd_cjudge.proofs.Taking.{all_then, all_same}
 use Rattle.ecd_cast.proofs.Names.{has-put}
 use Rattle.ecd_cjudge.proofs.StmtLayers.{moved_on}
 
@@ -41,19 +42,19 @@ after-append : (a b : List Naming) (e : List Name) → names_after (a ++ b) e �
 after-append [] b e = refl
 after-append (n ∷ a) b e = after-append a b (n.name ∷ e)
 
-pub named_then : {s t u : Names} {f f' f'' : First} {a b : List Naming} → Named s f t f' a → Named t f' u f'' b → Named s f u f'' (a ++ b)
+pub named_then : {s t u : Names} {f f' f'' : First Spot} {a b : List Naming} → Named s f t f' a → Named t f' u f'' b → Named s f u f'' (a ++ b)
 named_then {u = u} {a = a} {b} h k = record {
-  sees = λ l e. sees_same (sym (twice-append a b l)) (sees_then (h.sees l e) (k.sees (names_after a l) (h.there l e)));
+  sees = λ l e. all_same (sym (twice-append a b l)) (all_then (h.sees l e) (k.sees (names_after a l) (h.there l e)));
   there = λ l e. subst (λ (m : List Name). Holds u m) (sym (after-append a b l)) (k.there (names_after a l) (h.there l e));
 }
 
-pub named_same : {s t : Names} {f f' : First} {a b : List Naming} → a ≡ b → Named s f t f' a → Named s f t f' b
+pub named_same : {s t : Names} {f f' : First Spot} {a b : List Naming} → a ≡ b → Named s f t f' a → Named s f t f' b
 named_same {s} {t} {f} {f'} e h = subst (λ (l : List Naming). Named s f t f' l) e h
 
-pub named_one : (s t : Names) (f f' : First) (x : Bor (List ℕ)) (p : Place) (is_new : Bool) → is_new ≡ not (has s x.now) → Finds f f' p (unless is_new 6) → Updates (λ a b. slice_cmp nat_cmp a.now b.now) s t x true →
+pub named_one : (s t : Names) (f f' : First Spot) (x : Bor (List ℕ)) (p : Place) (is_new : Bool) → is_new ≡ not (has s x.now) → Finds f f' p (unless is_new 6) → Updates (λ a b. slice_cmp nat_cmp a.now b.now) s t x true →
     Named s f t f' (record { name = x.now; place = p } ∷ [])
 named_one s t f f' x p is_new e h u = record {
-  sees = λ l k. sees_same (ap (λ b. at_place p (unless b 6)) (e ∙ ap not (k.has_them x.now)) ∙ sym (append-nil (at_place p (unless (not (is_among l x.now)) 6)))) h.sees;
+  sees = λ l k. all_same (ap (λ b. at_place p (unless b 6)) (e ∙ ap not (k.has_them x.now)) ∙ sym (append-nil (at_place p (unless (not (is_among l x.now)) 6)))) h.sees;
   there = λ l k. record { has_them = λ y. has-put s t x u y ∙ ap (λ b. bytes_eq x.now y || b) (k.has_them y) };
 }
 

@@ -5,16 +5,17 @@ use Rattle.ecd_cast.specs.declared.tree.Expr.{Expr}
 use Rattle.ecd_cast.specs.declared.tree.Stmt.{Stmt, Row_of-Stmt, end_of-Stmt, more_of-Stmt, items-the_row-Stmt, items_hidden-the_row-Stmt-0}
 use Rattle.ecd_cast.specs.declared.tree.Stmt.TheVariants.{If, For}
 use Rattle.ecd_cast.specs.declared.tree.Stmt.TheBlock as stmts
-use Rattle.ecd_cjudge.specs.declared.first.First.{First}
+use Rattle.ecd_first.specs.declared.first.First.{First}
+use Rattle.ecd_cjudge.specs.declared.spot.Spot.{Spot}
 use Rattle.ecd_cast.specs.Memory.{Name}
 use Rattle.ecd_cast.specs.Meaning.{Place, shifted, count_of, count_in}
 use Rattle.ecd_cast.specs.Meaning.{count_all}
 use Rattle.ecd_cast.specs.Kinds.{ANumber, ATruth, Known, kind_in, broken_as, asked}
 use Rattle.ecd_cast.specs.Validity.{Around, in_loop, at_place, known_after, own_rules, stmt_faults, row_faults, block_faults}
-use Rattle.ecd_cjudge.specs.First.{Sees}
+use Rattle.ecd_cjudge.specs.Faults.{SeesAll}
 use Rattle.ecd_cscope.specs.Surroundings.{known_behind}
 use Rattle.ecd_cast.proofs.Layers.{count-hidden}
-use Rattle.ecd_cjudge.proofs.Sees.{sees_then, sees_same}
+use Rattle.ecd_cjudge.proofs.Taking.{all_then, all_same}
 
 -- ---- forms with parts
 
@@ -86,7 +87,7 @@ module _ (xs : List Stmt) (i : ℕ) (s : Stmt) (h : i < length xs) (e : s ≡ ge
   faults-more around known p = ap (λ l. block_faults around known l p) one_more ∙ faults-append around known (take i xs) s p
 
   -- what is taken in by one more statement
-  pub sees_more : {a b c : First} (around other : Around) (known now : Known) (p q : Place) → Sees a b (block_faults around known (take i xs) p) → Sees b c (stmt_faults other now s q) →
-      other ≡ around → now ≡ known_behind (take i xs) known → q ≡ shifted p (count_all (take i xs)) → Sees a c (block_faults around known (take (i + 1) xs) p)
+  pub sees_more : {a b c : First Spot} (around other : Around) (known now : Known) (p q : Place) → SeesAll a b (block_faults around known (take i xs) p) → SeesAll b c (stmt_faults other now s q) →
+      other ≡ around → now ≡ known_behind (take i xs) known → q ≡ shifted p (count_all (take i xs)) → SeesAll a c (block_faults around known (take (i + 1) xs) p)
   sees_more around other known now p q k l same kinds place =
-      sees_same (sym (faults-more around known p)) (sees_then k (sees_same (λ j. stmt_faults (same j) (kinds j) s (place j)) l))
+      all_same (sym (faults-more around known p)) (all_then k (all_same (λ j. stmt_faults (same j) (kinds j) s (place j)) l))

@@ -1,3 +1,3 @@
-pub mod First
+pub mod Faults
 pub mod Names
 pub mod Causes

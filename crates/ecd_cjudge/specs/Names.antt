@@ -2,10 +2,11 @@
 use Rattle.std.specs.Prelude.{ℕ, ◌≡◌, List, [], ◌∷◌}
 use Rattle.std.specs.BTreeSet.{BTreeSet}
 use denote.Ref.{Bor}
-use Rattle.ecd_cjudge.specs.declared.first.First.{First}
+use Rattle.ecd_first.specs.declared.first.First.{First}
+use Rattle.ecd_cjudge.specs.declared.spot.Spot.{Spot}
 use Rattle.ecd_cast.specs.Memory.{Name}
 use Rattle.ecd_cast.specs.Validity.{Naming, twice, is_among}
-use Rattle.ecd_cjudge.specs.First.{Sees}
+use Rattle.ecd_cjudge.specs.Faults.{SeesAll}
 use Rattle.ecd_cast.specs.ByName.{has}
 
 -- the names that are there behind more of them
@@ -18,6 +19,6 @@ pub record Holds (set : BTreeSet (Bor (List ℕ))) (names : List Name) : Type 0 
   pub has_them : (x : Name) → has set x ≡ is_among names x
 
 -- the names have been taken in, and what they break, whatever list it is whose names were there
-pub record Named (set : BTreeSet (Bor (List ℕ))) (first : First) (set' : BTreeSet (Bor (List ℕ))) (first' : First) (namings : List Naming) : Type 0 where
-  pub sees : (names : List Name) → Holds set names → Sees first first' (twice names namings)
+pub record Named (set : BTreeSet (Bor (List ℕ))) (first : First Spot) (set' : BTreeSet (Bor (List ℕ))) (first' : First Spot) (namings : List Naming) : Type 0 where
+  pub sees : (names : List Name) → Holds set names → SeesAll first first' (twice names namings)
   pub there : (names : List Name) → Holds set names → Holds set' (names_after namings names)

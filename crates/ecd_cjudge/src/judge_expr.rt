@@ -2,15 +2,16 @@
 
 ghost use Rattle.std.specs.Prelude.{◌≡◌, IfOk, OnOk};
 ghost use Rattle.ecd_cast.specs.Kinds.{kind_of, broken_by, member, asked_pointer, asked_cell, kind_in, unless_known, or_unknown};
-ghost use Rattle.ecd_cjudge.specs.First.{Finds, place_as};
+ghost use Rattle.ecd_cjudge.specs.Faults.{Finds, place_as};
 ghost use Rattle.ecd_cscope.specs.Surroundings.{Surrounds, structs_before};
 ghost use Rattle.ecd_cscope.specs.Variables.{kind_as};
 
-use crate::first::{First, Spot};
+use crate::spot::{Spot, note, unless};
 use ecd_cast::tree::Expr;
 use ecd_cscope::directory::Surroundings;
 use ecd_cscope::kind::Kind;
 use ecd_cscope::variables::Variables;
+use ecd_first::First;
 use ecd_list::OutOfMemory;
 
 /// What an expression is judged by: what stands round its statement, the variables that are known there, and where it stands.
@@ -24,20 +25,20 @@ pub(crate) struct Scene<'s, 'a> {
 }
 
 /// A variable that loads go through.
-fn judge_pointer(scene: &Scene, first: &mut First, name: &[u8])
+fn judge_pointer(scene: &Scene, first: &mut First<Spot>, name: &[u8])
     ensures { Finds first.old first.new (place_as scene.now.spot) (asked_pointer (kind_in scene.now.known.now name.now)) }
 {
     match scene.known.kind_of(name) {
         Some(Kind::ReadPointer) | Some(Kind::WritePointer) | Some(Kind::Unknown) => {}
-        Some(_) => first.note(scene.spot, 2),
-        None => first.note(scene.spot, 1),
+        Some(_) => note(first, scene.spot, 2),
+        None => note(first, scene.spot, 1),
     }
 }
 
 /// A variable before `->`, and the cell behind it, whose kind is answered.
 pub(crate) fn judge_cell<'a>(
     scene: &Scene<'_, 'a>,
-    first: &mut First,
+    first: &mut First<Spot>,
     name: &[u8],
     cell: &[u8],
 ) -> Kind<'a>
@@ -49,31 +50,31 @@ pub(crate) fn judge_cell<'a>(
         Some(Kind::Struct(declaration)) => match scene.around.cell(declaration, cell) {
             Some(kind) => kind,
             None => {
-                first.note(scene.spot, 1);
+                note(first, scene.spot, 1);
                 Kind::Unknown
             }
         },
         Some(Kind::Unknown) => Kind::Unknown,
         Some(_) => {
-            first.note(scene.spot, 2);
+            note(first, scene.spot, 2);
             Kind::Unknown
         }
         None => {
-            first.note(scene.spot, 1);
+            note(first, scene.spot, 1);
             Kind::Unknown
         }
     }
 }
 
 /// The kind of a variable.
-fn judge_variable<'a>(scene: &Scene<'_, 'a>, first: &mut First, name: &[u8]) -> Kind<'a>
+fn judge_variable<'a>(scene: &Scene<'_, 'a>, first: &mut First<Spot>, name: &[u8]) -> Kind<'a>
     ensures faults { Finds first.old first.new (place_as scene.now.spot) (unless_known (kind_in scene.now.known.now name.now)) }
     ensures kind { kind_as result ≡ or_unknown (kind_in scene.now.known.now name.now) }
 {
     match scene.known.kind_of(name) {
         Some(kind) => kind,
         None => {
-            first.note(scene.spot, 1);
+            note(first, scene.spot, 1);
             Kind::Unknown
         }
     }
@@ -82,7 +83,7 @@ fn judge_variable<'a>(scene: &Scene<'_, 'a>, first: &mut First, name: &[u8]) -> 
 /// Takes in the rules that an expression breaks, and answers its kind.
 pub(crate) fn judge_expr<'a>(
     scene: &Scene<'_, 'a>,
-    first: &mut First,
+    first: &mut First<Spot>,
     expr: &Expr,
     levels: u32,
 ) -> Result<Kind<'a>, OutOfMemory>
@@ -98,18 +99,18 @@ pub(crate) fn judge_expr<'a>(
         Expr::Load(name, index) => {
             judge_pointer(scene, first, name.as_slice());
             let kind = judge_expr(scene, first, index.get(), deeper)?;
-            first.unless(Kind::Number.takes(kind), scene.spot, 2);
+            unless(first, Kind::Number.takes(kind), scene.spot, 2);
             Ok(Kind::Number)
         }
         Expr::Binary(op, left, right) => {
             let left = judge_expr(scene, first, left.get(), deeper)?;
             let right = judge_expr(scene, first, right.get(), deeper)?;
-            first.unless(Kind::fit(*op, left, right), scene.spot, 2);
+            unless(first, Kind::fit(*op, left, right), scene.spot, 2);
             Ok(Kind::of_result(*op, left))
         }
         Expr::Not(operand) => {
             let kind = judge_expr(scene, first, operand.get(), deeper)?;
-            first.unless(Kind::Truth.takes(kind), scene.spot, 2);
+            unless(first, Kind::Truth.takes(kind), scene.spot, 2);
             Ok(Kind::Truth)
         }
     }

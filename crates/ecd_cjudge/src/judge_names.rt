@@ -3,11 +3,12 @@
 ghost use Rattle.std.specs.Prelude.{◌≡◌, ◌+◌, [], ◌∷◌, IfOk, OnOk, map};
 ghost use Rattle.ecd_cast.specs.Meaning.{count_of, count_all};
 ghost use Rattle.ecd_cast.specs.Validity.{named_by, named_in, head_names};
-ghost use Rattle.ecd_cjudge.specs.First.{place_as};
+ghost use Rattle.ecd_cjudge.specs.Faults.{place_as};
 ghost use Rattle.ecd_cjudge.specs.Names.{Named};
 
-use crate::first::{First, Spot};
+use crate::spot::{Spot, unless};
 use ecd_cast::tree::{CellInfo, Param, Stmt};
+use ecd_first::First;
 use ecd_list::OutOfMemory;
 use std::collections::BTreeSet;
 
@@ -16,7 +17,7 @@ pub(crate) type Names<'a> = BTreeSet<&'a [u8]>;
 
 /// A name, which the earlier ones may have already.
 fn name_one<'a>(
-    first: &mut First,
+    first: &mut First<Spot>,
     names: &mut Names<'a>,
     spot: Spot,
     name: &'a [u8],
@@ -24,13 +25,13 @@ fn name_one<'a>(
     ensures { OnOk result (Named names.old first.old names.new first.new (record { name = name.entry.now; place = place_as spot } ∷ [])) }
 {
     let is_new = names.insert(name)?;
-    first.unless(is_new, spot, 6);
+    unless(first, is_new, spot, 6);
     Ok(())
 }
 
 /// The names of parameters.
 pub(crate) fn name_params<'a>(
-    first: &mut First,
+    first: &mut First<Spot>,
     names: &mut Names<'a>,
     spot: Spot,
     params: &'a [Param],
@@ -45,7 +46,7 @@ pub(crate) fn name_params<'a>(
 
 /// The names of cells.
 pub(crate) fn name_cells<'a>(
-    first: &mut First,
+    first: &mut First<Spot>,
     names: &mut Names<'a>,
     spot: Spot,
     cells: &'a [CellInfo],
@@ -61,7 +62,7 @@ pub(crate) fn name_cells<'a>(
 /// The variables that the statements of a block declare. Answers the number behind the last statement.
 #[cycle(names)]
 pub(crate) fn name_block<'a>(
-    first: &mut First,
+    first: &mut First<Spot>,
     names: &mut Names<'a>,
     spot: Spot,
     stmts: &'a [Stmt],
@@ -84,7 +85,7 @@ pub(crate) fn name_block<'a>(
 
 #[cycle(names)]
 fn name_stmt<'a>(
-    first: &mut First,
+    first: &mut First<Spot>,
     names: &mut Names<'a>,
     spot: Spot,
     stmt: &'a Stmt,

@@ -3,22 +3,22 @@
 ghost use Rattle.std.specs.Prelude.{◌≡◌, IfOk, OnOk, flat_map, slice_get};
 ghost use Rattle.ecd_cast.specs.Kinds.{broken_by, broken_as, args_fit, asked, kind_in};
 ghost use Rattle.ecd_cast.specs.Validity.{source_broken};
-ghost use Rattle.ecd_cjudge.specs.First.{Finds, place_as};
+ghost use Rattle.ecd_cjudge.specs.Faults.{Finds, place_as};
 ghost use Rattle.ecd_cscope.specs.Surroundings.{Surrounds, structs_before, around_as, called_broken, takes_at, params_in};
 ghost use Rattle.ecd_cscope.specs.Variables.{kind_as};
 
-use crate::first::{First, Spot};
 use crate::judge_expr::{Scene, judge_expr};
+use crate::spot::{Spot, note, unless};
 use ecd_cast::tree::{Expr, Param, Source};
-use ecd_cbuild::chains::MOST_LEVELS;
 use ecd_cscope::directory::Found;
 use ecd_cscope::kind::Kind;
-use ecd_list::OutOfMemory;
+use ecd_first::First;
+use ecd_list::{MOST_LEVELS, OutOfMemory};
 
 /// An expression where a kind is asked for.
 pub(crate) fn judge_as<'a>(
     scene: &Scene<'_, 'a>,
-    first: &mut First,
+    first: &mut First<Spot>,
     asked: Kind<'a>,
     expr: &Expr,
 ) -> Result<(), OutOfMemory>
@@ -26,17 +26,17 @@ pub(crate) fn judge_as<'a>(
     ensures { OnOk result (Finds first.old first.new (place_as scene.now.spot) (broken_as (kind_as asked.entry) (structs_before scene.now.around.now) scene.now.known.now expr.now)) }
 {
     let kind = judge_expr(scene, first, expr, MOST_LEVELS)?;
-    first.unless(asked.takes(kind), scene.spot, 2);
+    unless(first, asked.takes(kind), scene.spot, 2);
     Ok(())
 }
 
 /// A variable that has to be of a kind.
-pub(crate) fn judge_asked(scene: &Scene, first: &mut First, kind: Kind, name: &[u8])
+pub(crate) fn judge_asked(scene: &Scene, first: &mut First<Spot>, kind: Kind, name: &[u8])
     ensures { Finds first.old first.new (place_as scene.now.spot) (asked (kind_as kind.entry) (kind_in scene.now.known.now name.now)) }
 {
     match scene.known.kind_of(name) {
-        Some(got) => first.unless(kind.takes(got), scene.spot, 2),
-        None => first.note(scene.spot, 1),
+        Some(got) => unless(first, kind.takes(got), scene.spot, 2),
+        None => note(first, scene.spot, 1),
     }
 }
 
@@ -53,7 +53,7 @@ fn param_takes(params: &[Param], number: usize, kind: Kind) -> bool
 /// The arguments of a call, and whether they match the parameters in number and kind.
 fn judge_args(
     scene: &Scene,
-    first: &mut First,
+    first: &mut First<Spot>,
     params: &[Param],
     args: &[Expr],
 ) -> Result<bool, OutOfMemory>
@@ -81,22 +81,22 @@ fn params_of<'a>(found: Option<Found<'a>>) -> &'a [Param]
 }
 
 /// The function that is called.
-fn judge_called(first: &mut First, spot: Spot, found: Option<Found>, fit: bool)
+fn judge_called(first: &mut First<Spot>, spot: Spot, found: Option<Found>, fit: bool)
     ensures { Finds first.old first.new (place_as spot) (called_broken found.entry fit) }
 {
     match found {
         Some(found) => {
-            first.unless(fit, spot, 2);
-            first.unless(found.is_earlier, spot, 3);
+            unless(first, fit, spot, 2);
+            unless(first, found.is_earlier, spot, 3);
         }
-        None => first.note(spot, 1),
+        None => note(first, spot, 1),
     }
 }
 
 /// Where a number, or what the kind asks for, comes from.
 pub(crate) fn judge_source<'a>(
     scene: &Scene<'_, 'a>,
-    first: &mut First,
+    first: &mut First<Spot>,
     asked: Kind<'a>,
     from: &Source,
 ) -> Result<(), OutOfMemory>
@@ -109,7 +109,7 @@ pub(crate) fn judge_source<'a>(
             let found = scene.around.function(name.as_slice());
             let fit = judge_args(scene, first, params_of(found), args.as_slice())?;
             judge_called(first, scene.spot, found, fit);
-            first.unless(asked.takes(Kind::Number), scene.spot, 2);
+            unless(first, asked.takes(Kind::Number), scene.spot, 2);
             Ok(())
         }
     }

@@ -5,17 +5,18 @@ ghost use Rattle.ecd_cast.specs.declared.tree.Stmt.TheVariants.{Assign as AnAssi
 ghost use Rattle.ecd_cast.specs.Meaning.{count_of, count_all};
 ghost use Rattle.ecd_cast.specs.Kinds.{ANumber};
 ghost use Rattle.ecd_cast.specs.Validity.{own_rules, stmt_faults, block_faults, known_after, assigned_kind, assignable};
-ghost use Rattle.ecd_cjudge.specs.First.{Sees, Finds, place_as};
+ghost use Rattle.ecd_cjudge.specs.Faults.{SeesAll, Finds, place_as};
 ghost use Rattle.ecd_cscope.specs.Surroundings.{Surrounds, around_as};
 ghost use Rattle.ecd_cscope.specs.Variables.{kind_as, kind_if};
 
-use crate::first::{First, Spot};
 use crate::judge_expr::{Scene, judge_cell};
 use crate::judge_source::{judge_as, judge_asked, judge_source};
+use crate::spot::{Spot, note, unless};
 use ecd_cast::tree::{Source, Stmt};
 use ecd_cscope::directory::Surroundings;
 use ecd_cscope::kind::Kind;
 use ecd_cscope::variables::Variables;
+use ecd_first::First;
 use ecd_list::OutOfMemory;
 
 /// What is known at a statement: variables, and the variables and bounds of the loops around.
@@ -37,20 +38,20 @@ fn assigned_kind<'a>(kind: Option<Kind<'a>>) -> Kind<'a>
 }
 
 /// Takes in what an assignment to a variable of this kind breaks.
-fn judge_assignable(first: &mut First, spot: Spot, kind: Option<Kind>)
+fn judge_assignable(first: &mut First<Spot>, spot: Spot, kind: Option<Kind>)
     ensures { Finds first.old first.new (place_as spot) (assignable (kind_if kind.entry)) }
 {
     match kind {
         Some(Kind::Number) | Some(Kind::ReadPointer) | Some(Kind::Unknown) => {}
-        Some(_) => first.note(spot, 2),
-        None => first.note(spot, 1),
+        Some(_) => note(first, spot, 2),
+        None => note(first, spot, 1),
     }
 }
 
 /// `name = from;`
 fn judge_assign(
     scene: &Scene,
-    first: &mut First,
+    first: &mut First<Spot>,
     name: &[u8],
     from: &Source,
 ) -> Result<(), OutOfMemory>
@@ -60,12 +61,12 @@ fn judge_assign(
     let kind = scene.known.kind_of(name);
     judge_assignable(first, scene.spot, kind);
     judge_source(scene, first, assigned_kind(kind), from)?;
-    first.unless(!scene.loops.has(name), scene.spot, 4);
+    unless(first, !scene.loops.has(name), scene.spot, 4);
     Ok(())
 }
 
 /// Takes in the rules that a statement breaks by itself, without those inside it.
-fn judge_own(scene: &Scene, first: &mut First, stmt: &Stmt) -> Result<(), OutOfMemory>
+fn judge_own(scene: &Scene, first: &mut First<Spot>, stmt: &Stmt) -> Result<(), OutOfMemory>
     requires { Surrounds scene.now.around.now }
     ensures { OnOk result (Finds first.old first.new (place_as scene.now.spot) (own_rules (around_as scene.now.around.now scene.now.loops.now) scene.now.known.now stmt.now)) }
 {
@@ -81,7 +82,8 @@ fn judge_own(scene: &Scene, first: &mut First, stmt: &Stmt) -> Result<(), OutOfM
         }
         Stmt::SetCell { name, cell, from } => {
             let kind = judge_cell(scene, first, name.as_slice(), cell.as_slice());
-            judge_as(scene, first, kind, from)
+            judge_as(scene, first, kind, from)?;
+            Ok(())
         }
         Stmt::If { test, .. } => judge_as(scene, first, Kind::Truth, test),
         Stmt::For { bound, .. } => {
@@ -110,13 +112,13 @@ impl<'a> Scope<'a> {
 pub(crate) fn judge_block<'a>(
     around: &Surroundings<'a>,
     scope: &mut Scope<'a>,
-    first: &mut First,
+    first: &mut First<Spot>,
     spot: Spot,
     stmts: &'a [Stmt],
     levels: u32,
 ) -> Result<u32, OutOfMemory>
     requires { Surrounds around.now }
-    ensures faults { OnOk result (Sees first.old first.new (block_faults (around_as around.now scope.old.loops) scope.old.known stmts.now (place_as spot))) }
+    ensures faults { OnOk result (SeesAll first.old first.new (block_faults (around_as around.now scope.old.loops) scope.old.known stmts.now (place_as spot))) }
     ensures next { IfOk result (λ n. n ≡ spot.statement + count_all stmts.now) }
     ensures known { OnOk result (scope.new.known ≡ scope.old.known) }
     ensures loops { OnOk result (scope.new.loops ≡ scope.old.loops) }
@@ -139,13 +141,13 @@ pub(crate) fn judge_block<'a>(
 fn judge_stmt<'a>(
     around: &Surroundings<'a>,
     scope: &mut Scope<'a>,
-    first: &mut First,
+    first: &mut First<Spot>,
     spot: Spot,
     stmt: &'a Stmt,
     levels: u32,
 ) -> Result<u32, OutOfMemory>
     requires { Surrounds around.now }
-    ensures faults { OnOk result (Sees first.old first.new (stmt_faults (around_as around.now scope.old.loops) scope.old.known stmt.now (place_as spot))) }
+    ensures faults { OnOk result (SeesAll first.old first.new (stmt_faults (around_as around.now scope.old.loops) scope.old.known stmt.now (place_as spot))) }
     ensures next { IfOk result (λ n. n ≡ spot.statement + count_of stmt.now) }
     ensures known { OnOk result (scope.new.known ≡ known_after stmt.now scope.old.known) }
     ensures loops { OnOk result (scope.new.loops ≡ scope.old.loops) }

@@ -1,26 +1,28 @@
 //! Programs are checked by the rules.
 
 ghost use Rattle.std.specs.Prelude.{◌≡◌, ◌<◌, ◌^◌, [], IfOk, IfErr, None, length};
+ghost use Rattle.ecd_first.specs.Firsts.{Sees};
 ghost use Rattle.ecd_cast.specs.Spelling.{IsSpelledProgram};
-ghost use Rattle.ecd_cast.specs.Validity.{IsValid, faults_from, first_of};
+ghost use Rattle.ecd_cast.specs.Validity.{IsValid, faults_from};
 ghost use Rattle.ecd_cbuild.specs.Built.{IsFile};
 ghost use Rattle.ecd_cjudge.specs.Causes.{IsCause};
-ghost use Rattle.ecd_cjudge.specs.First.{first_in};
+ghost use Rattle.ecd_cjudge.specs.Faults.{Among, spot_rank};
 
-use crate::first::{Broken, First};
 use crate::judge_item::judge_items;
+use crate::spot::Spot;
 use ecd_cast::fault::CFault;
 use ecd_cast::tree::{CItem, Program};
 use ecd_cbuild::builder::Valid;
 use ecd_cbuild::chains::longest;
 use ecd_cscope::directory::Directory;
+use ecd_first::{Broken, First};
 use ecd_list::OutOfMemory;
 use std::alloc::Global;
 
 /// The first rule that items break, of C1 to C6.
-fn first_broken(alloc: Global, items: &[CItem]) -> Result<Option<Broken>, OutOfMemory>
+fn first_broken(alloc: Global, items: &[CItem]) -> Result<Option<Broken<Spot>>, OutOfMemory>
     requires { length items.now < 2 ^ 32 }
-    ensures { IfOk result (λ b. first_in b ≡ first_of None (faults_from [] items.now 0)) }
+    ensures { IfOk result (λ b. Sees spot_rank None b (Among (faults_from [] items.now 0))) }
 {
     let directory = Directory::of(alloc, items)?;
     let mut first = First { broken: None };
@@ -43,8 +45,8 @@ fn judge(alloc: Global, program: &Program) -> Result<u32, CFault>
         Some(broken) => {
             return Err(CFault::Rule {
                 rule: broken.rule,
-                item: broken.spot.item,
-                statement: broken.spot.statement,
+                item: broken.place.item,
+                statement: broken.place.statement,
             });
         }
     }
@@ -66,7 +68,7 @@ fn judge(alloc: Global, program: &Program) -> Result<u32, CFault>
 /// # Errors
 ///
 /// `Rule` with the first fault: the least item, then the least statement, then the least rule, and C7 last.
-/// `OutOfMemory` where memory is wanting. These count as that: blocks inside each other in more than 1,000 levels, a function's own block being the first; expressions inside each other in more than 1,000; 2^32 or more items, or variables in one chain of calls; 2^32 - 1 or more statements in one function.
+/// `OutOfMemory` where memory is wanting. These count as that: blocks inside each other in more than `MOST_LEVELS` levels, a function's own block being the first; expressions inside each other in more than `MOST_LEVELS`; 2^32 or more items, or variables in one chain of calls; 2^32 - 1 or more statements in one function.
 pub fn validate(alloc: Global, program: Program) -> Result<Valid, CFault>
     requires { IsSpelledProgram program }
     ensures same { IfOk result (λ v. v ≡ program) }

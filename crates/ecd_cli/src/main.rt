@@ -1,21 +1,9 @@
-//! The command line of the compiler from CDDL (RFC 8610) to C readers and writers of deterministic CBOR (RFC 8949).
+//! The compiler from CDDL (RFC 8610) to C readers and writers of deterministic CBOR (RFC 8949): the words of the command line,
+//! done over the files and streams of the system.
 #![tactic(auto)]
 
-pub mod answer;
-pub mod cells;
-pub mod cfiles;
-pub mod commands;
-pub mod contents;
-pub mod laws;
-pub mod run;
-pub mod schemas;
-pub mod status;
-pub mod words;
-
-use answer::{Line, OUT_OF_MEMORY, tell};
+use ecd_commands::{Line, OUT_OF_MEMORY, Status, run, tell};
 use ecd_outside::{StdFiles, StdSink};
-use run::run;
-use status::Status;
 use std::env;
 use std::io::{Error, ErrorKind};
 use std::process::ExitCode;
@@ -48,6 +36,3 @@ fn main(rt: HostRuntime) -> ExitCode {
         Err(_) => ExitCode::from(NO_WORDS),
     }
 }
-
-#[cfg(test)]
-mod tests;

@@ -1,12 +1,12 @@
 -- Each cause of a refusal rules out the others.
-use Rattle.std.proofs.Common.{◌≡◌, ℕ, ◌⊎◌, ⊎_elim, inl, inr, List, refl, ◌∙◌, sym, subst}
+use Rattle.std.proofs.Common.{◌≡◌, ℕ, ◌⊎◌, inl, inr, List, refl, ◌∙◌, sym, subst}
 use Rattle.ecd_syntax.specs.declared.tree.Rule.{Rule}
 use Rattle.ecd_judge.specs.declared.refusal.Refusal.{Refusal}
 use Rattle.ecd_judge.specs.declared.refusal.Refusal.TheVariants.{NotUtf8, Lex, Parse, Name, NotBuilt, OutOfMemory}
 use Rattle.ecd_judge.specs.Request.{Request}
 use Rattle.ecd_judge.specs.Schema.{IsSound, IsTold, HasCause as HasJudgedCause}
 use Rattle.ecd_judge.proofs.Causes as judged
-use Rattle.ecd_compile.specs.Thin.{IsThin, IsFound}
+use Rattle.ecd_compile.specs.Thin.{IsThin}
 use Rattle.ecd_compile.specs.Schema.{IsNumber, IsNotThin, HasCause, HasOneCause}
 use Rattle.ecd_compile.specs.Reads.{IsNeverRefused}
 use Rattle.ecd_compile.proofs.LoneRule.{one_thin}

@@ -2,3 +2,4 @@ pub mod ByteReader
 pub mod LoneRule
 pub mod Causes
 pub mod Exact
+pub mod Numbers

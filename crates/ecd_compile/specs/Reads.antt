@@ -9,6 +9,8 @@ use Rattle.ecd_cast.specs.Meaning.{Run, Returns, calls_of}
 use Rattle.ecd_cast.specs.Validity.{IsValid, structs_of, functions_of, function_names}
 use Rattle.ecd_compile.specs.Reader.{unit_struct, reader_params}
 use Rattle.ecd_cast.specs.Spelling.{IsSpelling}
+use Rattle.ecd_item_laws.specs.declared.item.Item.TheVariants.{Uint}
+use Rattle.ecd_item_laws.specs.Encoding.{encoding}
 use Rattle.ecd_judge.specs.declared.refusal.Refusal.{Refusal}
 use Rattle.ecd_judge.specs.Request.{Request}
 use Rattle.ecd_judge.specs.Schema.{IsTold}
@@ -48,6 +50,10 @@ pub record IsCompiled (q : Request) (text : List ℕ) (p : Program) : Type 0 whe
   pub valid : IsValid p
   pub interface : HasInterface p.items
   pub reads : ReadsByte number p
+
+-- the one byte that is taken for a number is the encoding of the number as an item (RFC 8949, sections 3.1 and 4.2.1)
+abbrev pub IsEncodingOfNumber : Type 0
+IsEncodingOfNumber = (q : Request) (number : ℕ) → IsNumber q number → encoding (Uint number) ≡ number ∷ []
 
 -- a schema that can be compiled has no cause to be refused
 abbrev pub IsNeverRefused : Type 0

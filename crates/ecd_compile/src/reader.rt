@@ -1,6 +1,6 @@
 //! The reader of one number.
 
-ghost use Rattle.std.specs.Prelude.{◌≡◌, [], ◌∷◌, ◌++◌, ◌<◌, IfOk};
+ghost use Rattle.std.specs.Prelude.{◌≡◌, IfOk};
 ghost use Rattle.ecd_compile.specs.Reader as spec;
 ghost use Rattle.ecd_cast.specs.Spelling.{IsSpelledProgram};
 ghost use Rattle.ecd_compile.specs.Reads.{ReadsByte, HasInterface};

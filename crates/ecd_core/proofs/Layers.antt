@@ -84,7 +84,7 @@ module _ (order : Order) where
       let others = ways-row rest in
       λ j. fields j ∷ others j
 
-  entries-row : {n : Count} (row : Row_of-MapEntry n) → meanings order row ≡ entries_mean order (items-the_row-MapEntry n row)
+  pub entries-row : {n : Count} (row : Row_of-MapEntry n) → meanings order row ≡ entries_mean order (items-the_row-MapEntry n row)
   unfolding Gives
   entries-row end_of-MapEntry = refl
   entries-row (more_of-MapEntry entry rest) = ap (λ (x : List EntryMeaning). meaning order entry ∷ x) (entries-row rest)

@@ -1,19 +1,18 @@
 -- Tokens of a text are a laying of its lexemes, and what reading them says of the text.
-use Rattle.std.proofs.Common.{◌≡◌, ℕ, zero, suc, ◌+◌, ◌-◌, ◌<◌, ◌≤◌, inl, inr, Bool, true, false, List, [], ◌∷◌, ◌++◌, length, take, drop, map, Result, Ok, Err, refl, ap, sym, ◌∙◌, subst, arith, one-add}
+use Rattle.std.proofs.Common.{◌≡◌, ℕ, zero, suc, ◌<◌, ◌≤◌, inl, inr, true, false, List, [], ◌∷◌, ◌++◌, length, take, drop, map, Result, Ok, Err, refl, ap, sym, ◌∙◌, subst, arith}
 use Rattle.std.specs.Prelude.{bytes_eq}
-use Rattle.std.specs.List.{list_all, prefix_len}
-use Rattle.std.proofs.lemmas.List.{length-drop, drop-drop, drop_all, take-append-drop, drop-map, take-map}
+use Rattle.std.proofs.lemmas.List.{length-append, length-drop, drop_all, take-append-drop, drop-map, take-map}
 use Rattle.std.proofs.Math.Seq.{take-append_seam, drop-append_seam}
 use Rattle.std.proofs.lemmas.Slice.Eq.{bytes_eq-Decides}
 use Rattle.ecd_cast.specs.declared.tree.Program.{Program}
-use Rattle.ecd_cast.specs.Lexemes.{Lexeme, Laid, IsLongest, is_lexeme, is_blank}
+use Rattle.ecd_cast.specs.Lexemes.{Lexeme, Laid, IsLongest, is_lexeme}
 use Rattle.ecd_cast.specs.Spelling.{first_line, IsSpelling}
 use Rattle.ecd_cgrammar.specs.Reading.{taken, stuck, program_at}
 use Rattle.ecd_cgrammar.specs.Faults.{FaultAt, Reaches, begins_blank, IsFault}
-use Rattle.ecd_cgrammar.proofs.Lexing.{reaches_laid}
+use Rattle.ecd_cgrammar.proofs.Lexing.{some_bytes, reaches_laid}
 use Rattle.ecd_cgrammar.proofs.Verdicts.{is_read, dead_behind, stops_at_end, stops_before, one_program, one_fault, no_fault}
-use Rattle.ecd_cread.specs.declared.token.Token.{Token}
-use Rattle.ecd_cread.specs.Scan.{blanks_len, front_len, Stands, Lexed, Ends, AllLexed, lexeme_of, lexemes}
+use Rattle.ecd_clex.specs.declared.token.Token.{Token}
+use Rattle.ecd_clex.specs.Tokens.{Stands, Lexed, Ends, AllLexed, lexeme_of, lexemes}
 use Rattle.ecd_cast.specs.Validity.{Fault, IsValid, IsFirstFault}
 use Rattle.ecd_cast.specs.declared.fault.CFault.{CFault}
 use Rattle.ecd_cast.specs.declared.fault.CFault.TheVariants as causes
@@ -21,53 +20,17 @@ use Rattle.ecd_cast.proofs.Verdicts.{first_fault}
 use Rattle.ecd_cread.specs.Answers.{Answers, Is, BeginsWell, place_or, Breaks, AnswersWith, IsAnswer}
 use Rattle.ecd_cread.specs.declared.fault.TextFault.{TextFault}
 use Rattle.ecd_cread.specs.declared.fault.TextFault.TheVariants as faults
-use Rattle.ecd_cread.proofs.Scanned.{run_passes, front_known, longest_front, no_front}
-
--- ---- one token
-
--- how a token stands in the text
-record Placed (text : List ℕ) (from : ℕ) (t : Token) : Type 0 where
-  blanks : List ℕ
-  blank : list_all is_blank blanks ≡ true
-  gap : drop from text ≡ blanks ++ drop t.at text
-  whole : drop t.at text ≡ lexeme_of text t ++ drop t.end text
-  known : is_lexeme (lexeme_of text t) ≡ true
-  longest : IsLongest (lexeme_of text t) (drop t.end text)
-
-placed : (text : List ℕ) (from : ℕ) (t : Token) → Stands text from t → Placed text from t
-unfolding lexeme_of blanks_len
-placed text from t s =
-    let rest : List ℕ = drop from text in
-    let front : List ℕ = drop t.at text in
-    let n : ℕ = front_len front in
-    let size : t.end - t.at ≡ n = omega (arith, s.ends) in
-    let some : 0 < n = omega (arith, s.ends, s.some) in
-    let fits : n ≤ length front = omega (arith, s.ends, s.within, length-drop t.at text) in
-    let behind : drop n front ≡ drop t.end text = drop-drop n t.at text ∙ ap (λ (k : ℕ). drop k text) (sym s.ends) in
-    record {
-      blanks = take (prefix_len is_blank rest) rest;
-      blank = run_passes is_blank rest;
-      gap = sym (take-append-drop (prefix_len is_blank rest) rest) ∙ ap (λ (r : List ℕ). take (prefix_len is_blank rest) rest ++ r) (drop-drop (prefix_len is_blank rest) from text ∙ ap (λ (k : ℕ). drop k text) (sym s.begins));
-      whole = sym (take-append-drop n front) ∙ ap (λ (k : ℕ). take k front ++ drop n front) (sym size) ∙ ap (λ (r : List ℕ). take (t.end - t.at) front ++ r) behind;
-      known = rw size (front_known front some);
-      longest = rw size (subst (IsLongest (take n front)) behind (longest_front front fits));
-    }
 
 -- ---- all tokens
 
 module _ (text : List ℕ) where
-  reached : (ts : List Token) (from to : ℕ) → Lexed text from ts to → Reaches (lexemes text ts) (drop (to + blanks_len (drop to text)) text) (drop from text)
-  unfolding lexemes blanks_len
-  reached [] from to h =
-      let rest : List ℕ = drop to text in (
-        take (prefix_len is_blank rest) rest,
-        run_passes is_blank rest,
-        ap (λ (k : ℕ). drop k text) h ∙ sym (take-append-drop (prefix_len is_blank rest) rest)
-            ∙ ap (λ (r : List ℕ). take (prefix_len is_blank rest) rest ++ r) (drop-drop (prefix_len is_blank rest) to text),
-      )
-  reached (t ∷ ts) from to h =
-      let p = placed text from t h.0 in
-      (p.blanks, drop t.end text, p.blank, p.gap ∙ ap (λ (r : List ℕ). p.blanks ++ r) p.whole, p.longest, reached ts t.end to h.1)
+  reached : (ts : List Token) (from last to : ℕ) → Lexed text from ts last → Ends text last to → Reaches (lexemes text ts) (drop to text) (drop from text)
+  unfolding lexemes
+  reached [] from last to h e = (e.blanks, e.blank, ap (λ (k : ℕ). drop k text) h ∙ e.gap)
+  reached (t ∷ ts) from last to h e = let p = h.0 in (p.blanks, drop t.end text, p.blank, p.gap ∙ ap (λ (r : List ℕ). p.blanks ++ r) p.whole, p.longest, reached ts t.end last to h.1 e)
+
+  inside : (from : ℕ) (t : Token) → Stands text from t → t.at ≤ length text
+  inside from t s = omega (arith, ap length s.whole, length-drop t.at text, length-append (lexeme_of text t) (drop t.end text), some_bytes (lexeme_of text t) s.known)
 
   -- what stands before a token, and the token
   record Before (from : ℕ) (before : List Token) (t : Token) : Type 0 where
@@ -86,27 +49,12 @@ module _ (text : List ℕ) where
       no_token (suc j) e = cc
   before zero (u ∷ ts) rest t from to h e =
       let same : u ≡ t = cc in
-      let s : Stands text from t = subst (Stands text from) same h.0 in
-      let p = placed text from t s in
-      record { reaches = (p.blanks, p.blank, p.gap ∙ ap (λ (r : List ℕ). p.blanks ++ r) p.whole); whole = p.whole; known = p.known; longest = p.longest; within = omega (arith, s.within, s.some) }
+      let p : Stands text from t = subst (Stands text from) same h.0 in
+      record { reaches = (p.blanks, p.blank, p.gap ∙ ap (λ (r : List ℕ). p.blanks ++ r) p.whole); whole = p.whole; known = p.known; longest = p.longest; within = inside from t p }
   before (suc j) (u ∷ ts) rest t from to h e =
-      let p = placed text from u h.0 in
+      let p = h.0 in
       let b = before j ts rest t u.end to h.1 e in
       record { reaches = (p.blanks, drop u.end text, p.blank, p.gap ∙ ap (λ (r : List ℕ). p.blanks ++ r) p.whole, p.longest, b.reaches); whole = b.whole; known = b.known; longest = b.longest; within = b.within }
-
--- ---- the end
-
-run_stops : (xs : List ℕ) → begins_blank (drop (prefix_len is_blank xs) xs) ≡ false
-run_stops [] = refl
-run_stops (c ∷ cs) = by_test (is_blank c) refl (run_stops cs)
-  where
-    by_test : (b : Bool) → is_blank c ≡ b → begins_blank (drop (prefix_len is_blank cs) cs) ≡ false → begins_blank (drop (prefix_len is_blank (c ∷ cs)) (c ∷ cs)) ≡ false
-    by_test true e h = rw (e, one-add (prefix_len is_blank cs)) h
-    by_test false e h = rw e e
-
-ends_clear : (text : List ℕ) (from to : ℕ) → Ends text from to → begins_blank (drop to text) ≡ false
-unfolding blanks_len
-ends_clear text from to e = subst (λ (r : List ℕ). begins_blank r ≡ false) (drop-drop (prefix_len is_blank (drop from text)) from text ∙ ap (λ (k : ℕ). drop k text) (sym e.gap)) (run_stops (drop from text))
 
 -- ---- answers
 
@@ -116,8 +64,7 @@ module _ (text : List ℕ) (tokens : List Token) (end levels : ℕ) (well : Begi
 
   reaches_end : Reaches (lexemes text tokens) (drop end text) well.0
   reaches_end =
-      subst (Reaches (lexemes text tokens) (drop end text)) behind
-      (subst (λ (k : ℕ). Reaches (lexemes text tokens) (drop k text) (drop 20 text)) (sym all.ends.gap) (reached text tokens 20 all.last all.lexed))
+      subst (Reaches (lexemes text tokens) (drop end text)) behind (reached text tokens 20 all.last end all.lexed all.ends)
 
   pub spelled : (p : Program) → end ≡ length text → program_at (suc (length tokens)) levels (lexemes text tokens) ≡ taken p [] → IsSpelling p text
   spelled p e h =
@@ -125,9 +72,6 @@ module _ (text : List ℕ) (tokens : List Token) (end levels : ℕ) (well : Begi
       let empty : drop end text ≡ [] = drop_all end text (omega (arith, e)) in
       let laid : Laid (lexemes text tokens) well.0 = reaches_laid (lexemes text tokens) well.0 (subst (λ (t : List ℕ). Reaches (lexemes text tokens) t well.0) empty reaches_end) in
       record { spelled = r.1; spells = record { rest = well.0; begins = well.1; laid = subst (λ (ls : List Lexeme). Laid ls well.0) r.0 laid } }
-
-  dead : (l after : List ℕ) → drop end text ≡ l ++ after → is_lexeme l ≡ true → ⊥
-  dead l after e k = no_front (drop end text) all.ends.none l after e k
 
   fault_at_end : IsFault well.0 (drop end text) → FaultAt text end
   fault_at_end f = inr (record { body = well.0; begins = well.1; rest = drop end text; fault = f; stands = omega (arith, length-drop end text, all.ends.within) })
@@ -138,8 +82,8 @@ module _ (text : List ℕ) (tokens : List Token) (end levels : ℕ) (well : Begi
       at_rest : (r : List ℕ) → drop end text ≡ r → IsFault well.0 (drop end text)
       at_rest [] e = absurd (omega (arith, ap length e, length-drop end text))
       at_rest (c ∷ cs) e =
-          rw e (dead_behind p (lexemes text tokens) c cs well.0 (suc (length tokens)) levels h (subst (λ (t : List ℕ). Reaches (lexemes text tokens) t well.0) e reaches_end) (ap begins_blank (sym e) ∙ ends_clear text all.last end all.ends)
-          (λ l after f k. dead l after (e ∙ f) k))
+          rw e (dead_behind p (lexemes text tokens) c cs well.0 (suc (length tokens)) levels h (subst (λ (t : List ℕ). Reaches (lexemes text tokens) t well.0) e reaches_end) (ap begins_blank (sym e) ∙ all.ends.clear)
+          (λ l after f k. all.ends.none l after (e ∙ f) k))
 
   pub stopped : (j place : ℕ) → program_at (suc (length tokens)) levels (lexemes text tokens) ≡ stuck (drop j (lexemes text tokens)) → place ≡ place_or end (drop j tokens) → FaultAt text place
   unfolding lexemes
@@ -149,7 +93,7 @@ module _ (text : List ℕ) (tokens : List Token) (end levels : ℕ) (well : Begi
       at_tokens [] f =
           let none : drop j (lexemes text tokens) ≡ [] = drop-map (lexeme_of text) j tokens ∙ ap (map (lexeme_of text)) f in
           subst (FaultAt text) (sym (e ∙ ap (place_or end) f))
-          (fault_at_end (stops_at_end (lexemes text tokens) (drop end text) well.0 (suc (length tokens)) levels (h ∙ ap stuck none) reaches_end (ends_clear text all.last end all.ends) dead))
+          (fault_at_end (stops_at_end (lexemes text tokens) (drop end text) well.0 (suc (length tokens)) levels (h ∙ ap stuck none) reaches_end all.ends.clear all.ends.none))
       at_tokens (t ∷ rest) f =
           let b = before text j tokens rest t 20 all.last all.lexed f in
           let left : drop j (lexemes text tokens) ≡ lexeme_of text t ∷ lexemes text rest = drop-map (lexeme_of text) j tokens ∙ ap (map (lexeme_of text)) f in

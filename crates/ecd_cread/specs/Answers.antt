@@ -2,7 +2,7 @@
 use Rattle.std.specs.Prelude.{◌≡◌, ◌⊎◌, ◌++◌, ℕ, List, [], ◌∷◌, Result, Ok, Err}
 use Rattle.ecd_cast.specs.declared.tree.Program.{Program}
 use Rattle.ecd_cast.specs.Spelling.{first_line, IsSpelling}
-use Rattle.ecd_cread.specs.declared.token.Token.{Token}
+use Rattle.ecd_clex.specs.declared.token.Token.{Token}
 use Rattle.ecd_cast.specs.Validity.{Fault, IsValid, IsFirstFault}
 use Rattle.ecd_cast.specs.declared.fault.CFault.{CFault}
 use Rattle.ecd_cast.specs.declared.fault.CFault.TheVariants as causes

@@ -1,18 +1,14 @@
 //! Lexemes at a number of their list.
 
-ghost use Rattle.std.specs.Prelude.{◌≡◌, ◌+◌, ◌<◌, ◌≤◌, [], ◌∷◌, length, drop, IfOk, ◌^◌, OnSome, IfSome, MatchOption};
-ghost use Rattle.std.specs.Option.{option_copied};
-ghost use Rattle.ecd_cast.specs.Lexemes.{is_name as name_meant, is_digits as digits_meant};
-ghost use Rattle.ecd_cgrammar.specs.Reading.{peek, token, same, begins, name_of, literal_of, depth_of, op_of, number_below};
-ghost use Rattle.ecd_cread.specs.Scan.{lexemes, lexeme_of as lexeme_meant};
+ghost use Rattle.std.specs.Prelude.{◌≡◌, ◌<◌, ◌≤◌, length, drop, IfOk, IfSome};
+ghost use Rattle.ecd_cgrammar.specs.Reading.{peek, token, same, begins, name_of, literal_of, depth_of, op_of};
+ghost use Rattle.ecd_clex.specs.Tokens.{lexemes};
 ghost use Rattle.ecd_cread.specs.Reads.{seen_if, passed, Passes, Gives};
 ghost use Rattle.ecd_cread.specs.declared.cursor.Halt.TheVariants.{OutOfMemory as NoMemory};
 
-use crate::number::{depth_value, is_name, is_same, literal_value, operator};
-use crate::token::Token;
 use ecd_cast::tree::{Name, Op};
+use ecd_clex::{Token, depth_value, is_name, is_same, lexeme_at, literal_value, operator};
 use ecd_list::{ByteList, OutOfMemory};
-use ecd_text::{behind, front};
 use std::alloc::Global;
 
 /// Why reading stopped.
@@ -29,26 +25,6 @@ impl From<OutOfMemory> for Halt {
 
     fn from(_refused: OutOfMemory) -> Halt {
         Halt::OutOfMemory
-    }
-}
-
-/// The bytes of a token.
-#[tactic(auto, unfolding(crate::specs::Scan::lexeme_of))]
-fn lexeme_of(text: &[u8], token: Token) -> &[u8]
-    ensures { result.now ≡ lexeme_meant text.now token }
-{
-    let length = token.end.saturating_sub(token.at);
-    front(behind(text, token.at as usize), length as usize)
-}
-
-/// The lexeme of that number.
-pub fn lexeme_at<'a>(text: &'a [u8], tokens: &[Token], at: usize) -> Option<&'a [u8]>
-    ensures lexeme { MatchOption (option_copied result) (drop at (lexemes text.now tokens.now) ≡ []) (λ l. drop at (lexemes text.now tokens.now) ≡ l ∷ drop (at + 1) (lexemes text.now tokens.now)) }
-    ensures within { OnSome result (at < length tokens.now) }
-{
-    match tokens.get(at) {
-        Some(token) => Some(lexeme_of(text, *token)),
-        None => None,
     }
 }
 

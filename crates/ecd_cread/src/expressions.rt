@@ -5,14 +5,14 @@
 
 ghost use Rattle.std.specs.Prelude.{◌≡◌, ◌<◌, ◌≤◌, suc, length, drop, IfOk};
 ghost use Rattle.ecd_cgrammar.specs.Reading.{expr_at, behind_open as open_meant, load_at as load_meant, not_at as not_meant, binary_at as binary_meant, behind_name as behind_meant, listed, separated};
-ghost use Rattle.ecd_cread.specs.Scan.{lexemes};
+ghost use Rattle.ecd_clex.specs.Tokens.{lexemes};
 ghost use Rattle.ecd_cread.specs.Reads.{Gives};
 
 use crate::cursor::{
     Halt, expect, expect_name, expect_operator, lexeme_here, literal_here, name_here,
 };
-use crate::token::Token;
 use ecd_cast::tree::{Expr, ExprList, Name};
+use ecd_clex::Token;
 use ecd_list::{Boxed, List};
 use std::alloc::Global;
 
@@ -24,7 +24,7 @@ pub fn read_expr(
     text: &[u8],
     tokens: &[Token],
     at: usize,
-    levels: u16,
+    levels: u32,
 ) -> Result<(Expr, usize), Halt>
     requires { at ≤ length tokens.now }
     ensures gives { Gives (lexemes text.now tokens.now) result (expr_at levels (drop at (lexemes text.now tokens.now))) }
@@ -73,7 +73,7 @@ fn read_behind_open(
     text: &[u8],
     tokens: &[Token],
     at: usize,
-    levels: u16,
+    levels: u32,
 ) -> Result<(Expr, usize), Halt>
     requires { at ≤ length tokens.now }
     ensures gives { Gives (lexemes text.now tokens.now) result (open_meant (expr_at levels) (drop at (lexemes text.now tokens.now))) }
@@ -97,7 +97,7 @@ fn read_load(
     text: &[u8],
     tokens: &[Token],
     at: usize,
-    levels: u16,
+    levels: u32,
 ) -> Result<(Expr, usize), Halt>
     requires { at ≤ length tokens.now }
     ensures gives { Gives (lexemes text.now tokens.now) result (load_meant (expr_at levels) (drop at (lexemes text.now tokens.now))) }
@@ -120,7 +120,7 @@ fn read_not(
     text: &[u8],
     tokens: &[Token],
     at: usize,
-    levels: u16,
+    levels: u32,
 ) -> Result<(Expr, usize), Halt>
     requires { at ≤ length tokens.now }
     ensures gives { Gives (lexemes text.now tokens.now) result (not_meant (expr_at levels) (drop at (lexemes text.now tokens.now))) }
@@ -140,7 +140,7 @@ fn read_binary(
     text: &[u8],
     tokens: &[Token],
     at: usize,
-    levels: u16,
+    levels: u32,
 ) -> Result<(Expr, usize), Halt>
     requires { at ≤ length tokens.now }
     ensures gives { Gives (lexemes text.now tokens.now) result (binary_meant (expr_at levels) (drop at (lexemes text.now tokens.now))) }
@@ -162,7 +162,7 @@ pub fn read_args(
     text: &[u8],
     tokens: &[Token],
     at: usize,
-    levels: u16,
+    levels: u32,
 ) -> Result<(ExprList, usize), Halt>
     requires { at ≤ length tokens.now }
     ensures gives { Gives (lexemes text.now tokens.now) result (listed (expr_at levels) (suc (length tokens.now)) (drop at (lexemes text.now tokens.now))) }
@@ -180,7 +180,7 @@ fn read_separated(
     text: &[u8],
     tokens: &[Token],
     at: usize,
-    levels: u16,
+    levels: u32,
 ) -> Result<(ExprList, usize), Halt>
     requires { at ≤ length tokens.now }
     ensures gives { Gives (lexemes text.now tokens.now) result (separated (expr_at levels) (suc (length tokens.now)) (drop at (lexemes text.now tokens.now))) }

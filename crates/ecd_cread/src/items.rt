@@ -1,17 +1,17 @@
 //! Reading structs, functions and whole programs, each from the lexeme of a number on.
 
 ghost use Rattle.std.specs.Prelude.{◌≡◌, ◌<◌, ◌≤◌, suc, length, drop, IfOk};
-ghost use Rattle.ecd_cgrammar.specs.Reading.{stmt_at, param_at as param_meant, cell_at as cell_meant, struct_at as struct_meant, function_at as function_meant, item_at as item_meant, depth_at as depth_meant, program_at, listed, many, is_more, separated, cells_at, named, taken, param};
-ghost use Rattle.ecd_cread.specs.Scan.{lexemes};
+ghost use Rattle.ecd_cgrammar.specs.Reading.{stmt_at, param_at as param_meant, cell_at as cell_meant, struct_at as struct_meant, function_at as function_meant, item_at as item_meant, depth_at as depth_meant, program_at, listed, deep, many, is_more, separated, cells_at, named, taken, param};
+ghost use Rattle.ecd_clex.specs.Tokens.{lexemes};
 ghost use Rattle.ecd_cread.specs.Reads.{Gives, GivesAll};
 
 use crate::cursor::{Halt, expect, expect_depth, expect_name, is_here, lexeme_here};
 use crate::statements::read_block;
-use crate::token::Token;
 use ecd_cast::tree::{
     CItem, CItemList, CellInfo, CellInfoList, CellKind, Function, Param, ParamKind, ParamList,
     Program, StructDecl,
 };
+use ecd_clex::Token;
 use ecd_list::List;
 use std::alloc::Global;
 
@@ -97,7 +97,7 @@ fn read_function(
     text: &[u8],
     tokens: &[Token],
     at: usize,
-    levels: u16,
+    levels: u32,
 ) -> Result<(CItem, usize), Halt>
     requires { at ≤ length tokens.now }
     ensures gives { Gives (lexemes text.now tokens.now) result (function_meant (suc (length tokens.now)) (stmt_at (suc (length tokens.now)) levels) (drop at (lexemes text.now tokens.now))) }
@@ -119,7 +119,7 @@ fn read_item(
     text: &[u8],
     tokens: &[Token],
     at: usize,
-    levels: u16,
+    levels: u32,
 ) -> Result<(CItem, usize), Halt>
     requires { at ≤ length tokens.now }
     ensures gives { Gives (lexemes text.now tokens.now) result (item_meant (suc (length tokens.now)) (stmt_at (suc (length tokens.now)) levels) (drop at (lexemes text.now tokens.now))) }
@@ -242,10 +242,10 @@ fn read_items(
     text: &[u8],
     tokens: &[Token],
     at: usize,
-    levels: u16,
+    levels: u32,
 ) -> Result<CItemList, Halt>
     requires { at ≤ length tokens.now }
-    ensures { GivesAll (lexemes text.now tokens.now) result (many is_more (item_meant (suc (length tokens.now)) (stmt_at (suc (length tokens.now)) levels)) (suc (length tokens.now)) (drop at (lexemes text.now tokens.now))) }
+    ensures { GivesAll (lexemes text.now tokens.now) result (many is_more (item_meant (suc (length tokens.now)) (stmt_at (suc (length tokens.now)) levels)) deep (suc (length tokens.now)) (drop at (lexemes text.now tokens.now))) }
 {
     let mut items = List::new(alloc);
     let mut here = at;
@@ -263,7 +263,7 @@ pub fn read_tokens(
     alloc: Global,
     text: &[u8],
     tokens: &[Token],
-    levels: u16,
+    levels: u32,
 ) -> Result<Program, Halt>
     ensures { GivesAll (lexemes text.now tokens.now) result (program_at (suc (length tokens.now)) levels (lexemes text.now tokens.now)) }
 {

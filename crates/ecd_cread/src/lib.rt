@@ -5,15 +5,12 @@ mod cursor;
 mod expressions;
 mod fault;
 mod items;
-mod lex;
-mod number;
 mod program;
 mod simple;
 mod statements;
-mod token;
 mod valid;
 
 pub use ecd_cast::fault::CFault;
 pub use ecd_cbuild::builder::Valid;
-pub use lex::MOST_BYTES;
+pub use ecd_clex::MOST_BYTES;
 pub use valid::read_c;

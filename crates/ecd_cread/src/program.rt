@@ -9,15 +9,11 @@ ghost use Rattle.ecd_cread.specs.Answers.{Answers, Is, place_or as place_meant};
 use crate::cursor::Halt;
 use crate::fault::TextFault;
 use crate::items::read_tokens;
-use crate::lex::{MOST_BYTES, lex};
-use crate::number::is_same;
-use crate::token::Token;
 use ecd_cast::tree::Program;
+use ecd_clex::{MOST_BYTES, Token, is_same, lex};
+use ecd_list::MOST_LEVELS;
 use ecd_text::front;
 use std::alloc::Global;
-
-/// How many statements and expressions may stand inside each other before there is want of memory.
-const LEVELS: u16 = 1000;
 
 /// The first line of a text, with its line feed.
 const FIRST_LINE: &[u8] = b"#include <stdint.h>\n";
@@ -47,7 +43,7 @@ fn answer(alloc: Global, text: &[u8]) -> Result<Program, TextFault>
         return Err(TextFault::At { place: 0 });
     }
     let (tokens, end) = lex(alloc, text, FIRST_LINE.len())?;
-    match read_tokens(alloc, text, tokens.as_slice(), LEVELS) {
+    match read_tokens(alloc, text, tokens.as_slice(), MOST_LEVELS) {
         Ok(program) if end == text.len() => Ok(program),
         Ok(_) => Err(TextFault::At { place: end as u32 }),
         Err(Halt::Unexpected(at)) => Err(TextFault::At {
@@ -63,7 +59,7 @@ fn answer(alloc: Global, text: &[u8]) -> Result<Program, TextFault>
 ///
 /// `At` exactly where the text is no spelling: at the first lexeme, or byte that begins no lexeme, that no spelling has
 /// behind those before it, or at the text's length where the text ends too early. `OutOfMemory` also where statements
-/// and expressions stand more than 1,000 deep inside each other.
+/// and expressions stand more than `MOST_LEVELS` deep inside each other.
 pub fn read_program(alloc: Global, text: &[u8]) -> Result<Program, TextFault>
     requires { length text.now ≤ MOST_BYTES }
     // The text spells the program that is answered, and a program that it spells is answered.

@@ -2,13 +2,13 @@
 
 ghost use Rattle.std.specs.Prelude.{◌≡◌, ◌<◌, ◌≤◌, suc, length, drop, IfOk};
 ghost use Rattle.ecd_cgrammar.specs.Reading.{expr_at, source_behind as behind_meant, source_at as source_meant, number_at as number_meant, pointer_at as pointer_meant, assign_at as assign_meant, store_at as store_meant, set_cell_at as set_cell_meant, behind_target as target_meant, return_at as return_meant};
-ghost use Rattle.ecd_cread.specs.Scan.{lexemes};
+ghost use Rattle.ecd_clex.specs.Tokens.{lexemes};
 ghost use Rattle.ecd_cread.specs.Reads.{Gives};
 
 use crate::cursor::{Halt, expect, expect_name, lexeme_here, name_here};
 use crate::expressions::{read_args, read_behind_name, read_expr};
-use crate::token::Token;
 use ecd_cast::tree::{Name, Source, Stmt};
+use ecd_clex::Token;
 use std::alloc::Global;
 
 /// What a number is taken from: an expression or a call.
@@ -18,7 +18,7 @@ fn read_source(
     text: &[u8],
     tokens: &[Token],
     at: usize,
-    levels: u16,
+    levels: u32,
 ) -> Result<(Source, usize), Halt>
     requires { at ≤ length tokens.now }
     ensures gives { Gives (lexemes text.now tokens.now) result (source_meant (suc (length tokens.now)) (expr_at levels) (drop at (lexemes text.now tokens.now))) }
@@ -39,7 +39,7 @@ fn read_source_behind(
     text: &[u8],
     tokens: &[Token],
     at: usize,
-    levels: u16,
+    levels: u32,
     name: Name,
 ) -> Result<(Source, usize), Halt>
     requires { at ≤ length tokens.now }
@@ -62,7 +62,7 @@ pub fn read_number(
     text: &[u8],
     tokens: &[Token],
     at: usize,
-    levels: u16,
+    levels: u32,
 ) -> Result<(Stmt, usize), Halt>
     requires { at ≤ length tokens.now }
     ensures gives { Gives (lexemes text.now tokens.now) result (number_meant (suc (length tokens.now)) (expr_at levels) (drop at (lexemes text.now tokens.now))) }
@@ -83,7 +83,7 @@ pub fn read_pointer(
     text: &[u8],
     tokens: &[Token],
     at: usize,
-    levels: u16,
+    levels: u32,
 ) -> Result<(Stmt, usize), Halt>
     requires { at ≤ length tokens.now }
     ensures gives { Gives (lexemes text.now tokens.now) result (pointer_meant (expr_at levels) (drop at (lexemes text.now tokens.now))) }
@@ -106,7 +106,7 @@ pub fn read_behind_target(
     text: &[u8],
     tokens: &[Token],
     at: usize,
-    levels: u16,
+    levels: u32,
     name: Name,
 ) -> Result<(Stmt, usize), Halt>
     requires { at ≤ length tokens.now }
@@ -131,7 +131,7 @@ fn read_assign(
     text: &[u8],
     tokens: &[Token],
     at: usize,
-    levels: u16,
+    levels: u32,
     name: Name,
 ) -> Result<(Stmt, usize), Halt>
     requires { at ≤ length tokens.now }
@@ -151,7 +151,7 @@ fn read_store(
     text: &[u8],
     tokens: &[Token],
     at: usize,
-    levels: u16,
+    levels: u32,
     name: Name,
 ) -> Result<(Stmt, usize), Halt>
     requires { at ≤ length tokens.now }
@@ -177,7 +177,7 @@ fn read_set_cell(
     text: &[u8],
     tokens: &[Token],
     at: usize,
-    levels: u16,
+    levels: u32,
     name: Name,
 ) -> Result<(Stmt, usize), Halt>
     requires { at ≤ length tokens.now }
@@ -199,7 +199,7 @@ pub fn read_return(
     text: &[u8],
     tokens: &[Token],
     at: usize,
-    levels: u16,
+    levels: u32,
 ) -> Result<(Stmt, usize), Halt>
     requires { at ≤ length tokens.now }
     ensures gives { Gives (lexemes text.now tokens.now) result (return_meant (expr_at levels) (drop at (lexemes text.now tokens.now))) }

@@ -1,15 +1,15 @@
 //! Reading statements, each from the lexeme of a number on.
 
 ghost use Rattle.std.specs.Prelude.{◌≡◌, ◌<◌, ◌≤◌, suc, length, drop, codes, IfOk};
-ghost use Rattle.ecd_cgrammar.specs.Reading.{expr_at, stmt_at, block_at as block_meant, if_at as if_meant, bound_at as bound_meant, turn_at as turn_meant, for_at as for_meant, keyword_at, nested_at, many, is_before};
-ghost use Rattle.ecd_cread.specs.Scan.{lexemes};
+ghost use Rattle.ecd_cgrammar.specs.Reading.{expr_at, stmt_at, block_at as block_meant, if_at as if_meant, bound_at as bound_meant, turn_at as turn_meant, for_at as for_meant, keyword_at, nested_at, deep, many, is_before};
+ghost use Rattle.ecd_clex.specs.Tokens.{lexemes};
 ghost use Rattle.ecd_cread.specs.Reads.{Gives, Passes};
 
 use crate::cursor::{Halt, expect, expect_name, is_here, lexeme_here, name_here};
 use crate::expressions::read_expr;
 use crate::simple::{read_behind_target, read_number, read_pointer, read_return};
-use crate::token::Token;
 use ecd_cast::tree::{Name, Stmt, StmtList};
+use ecd_clex::Token;
 use ecd_list::List;
 use std::alloc::Global;
 
@@ -21,7 +21,7 @@ pub fn read_stmt(
     text: &[u8],
     tokens: &[Token],
     at: usize,
-    levels: u16,
+    levels: u32,
 ) -> Result<(Stmt, usize), Halt>
     requires { at ≤ length tokens.now }
     ensures gives { Gives (lexemes text.now tokens.now) result (stmt_at (suc (length tokens.now)) levels (drop at (lexemes text.now tokens.now))) }
@@ -46,7 +46,7 @@ fn read_keyword(
     text: &[u8],
     tokens: &[Token],
     at: usize,
-    levels: u16,
+    levels: u32,
 ) -> Result<(Stmt, usize), Halt>
     requires { at ≤ length tokens.now }
     ensures gives { Gives (lexemes text.now tokens.now) result (keyword_at (suc (length tokens.now)) (expr_at levels) (stmt_at (suc (length tokens.now)) levels) (drop at (lexemes text.now tokens.now))) }
@@ -70,7 +70,7 @@ fn read_nested(
     text: &[u8],
     tokens: &[Token],
     at: usize,
-    levels: u16,
+    levels: u32,
 ) -> Result<(Stmt, usize), Halt>
     requires { at ≤ length tokens.now }
     ensures gives { Gives (lexemes text.now tokens.now) result (nested_at (suc (length tokens.now)) (expr_at levels) (stmt_at (suc (length tokens.now)) levels) (drop at (lexemes text.now tokens.now))) }
@@ -95,7 +95,7 @@ fn read_if(
     text: &[u8],
     tokens: &[Token],
     at: usize,
-    levels: u16,
+    levels: u32,
 ) -> Result<(Stmt, usize), Halt>
     requires { at ≤ length tokens.now }
     ensures gives { Gives (lexemes text.now tokens.now) result (if_meant (suc (length tokens.now)) (expr_at levels) (stmt_at (suc (length tokens.now)) levels) (drop at (lexemes text.now tokens.now))) }
@@ -155,7 +155,7 @@ fn read_for(
     text: &[u8],
     tokens: &[Token],
     at: usize,
-    levels: u16,
+    levels: u32,
 ) -> Result<(Stmt, usize), Halt>
     requires { at ≤ length tokens.now }
     ensures gives { Gives (lexemes text.now tokens.now) result (for_meant (suc (length tokens.now)) (stmt_at (suc (length tokens.now)) levels) (drop at (lexemes text.now tokens.now))) }
@@ -179,7 +179,7 @@ pub fn read_block(
     text: &[u8],
     tokens: &[Token],
     at: usize,
-    levels: u16,
+    levels: u32,
 ) -> Result<(StmtList, usize), Halt>
     requires { at ≤ length tokens.now }
     ensures gives { Gives (lexemes text.now tokens.now) result (block_meant (suc (length tokens.now)) (stmt_at (suc (length tokens.now)) levels) (drop at (lexemes text.now tokens.now))) }
@@ -199,10 +199,10 @@ fn read_statements(
     text: &[u8],
     tokens: &[Token],
     at: usize,
-    levels: u16,
+    levels: u32,
 ) -> Result<(StmtList, usize), Halt>
     requires { at ≤ length tokens.now }
-    ensures gives { Gives (lexemes text.now tokens.now) result (many (is_before (codes "}")) (stmt_at (suc (length tokens.now)) levels) (suc (length tokens.now)) (drop at (lexemes text.now tokens.now))) }
+    ensures gives { Gives (lexemes text.now tokens.now) result (many (is_before (codes "}")) (stmt_at (suc (length tokens.now)) levels) deep (suc (length tokens.now)) (drop at (lexemes text.now tokens.now))) }
     ensures within { IfOk result (λ x. x.1 ≤ length tokens.now) }
     ensures after { IfOk result (λ x. at ≤ x.1) }
 {

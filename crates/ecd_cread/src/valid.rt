@@ -8,11 +8,11 @@ ghost use Rattle.ecd_cgrammar.specs.Faults.{FaultAt};
 ghost use Rattle.ecd_cread.specs.Answers.{AnswersWith, IsAnswer, Breaks};
 
 use crate::fault::TextFault;
-use crate::lex::MOST_BYTES;
 use crate::program::read_program;
 use ecd_cast::fault::CFault;
 use ecd_cbuild::builder::Valid;
 use ecd_cjudge::validate::validate;
+use ecd_clex::MOST_BYTES;
 use std::alloc::Global;
 
 fn answer(alloc: Global, text: &[u8]) -> Result<Valid, CFault>
@@ -32,7 +32,7 @@ fn answer(alloc: Global, text: &[u8]) -> Result<Valid, CFault>
 ///
 /// `Text` exactly where the text is no spelling: at the first lexeme, or byte that begins no lexeme, that no spelling has
 /// behind those before it, or at the text's length where the text ends too early. `Rule` with the first of the rules C1
-/// to C7 that the program breaks. `OutOfMemory` also where statements and expressions stand more than 1,000 deep inside
+/// to C7 that the program breaks. `OutOfMemory` also where statements and expressions stand more than `MOST_LEVELS` deep inside
 /// each other.
 pub fn read_c(alloc: Global, text: &[u8]) -> Result<Valid, CFault>
     requires { length text.now ≤ MOST_BYTES }

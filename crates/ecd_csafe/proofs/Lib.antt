@@ -8,3 +8,5 @@ pub mod StuckPlaces
 pub mod Active
 pub mod DeepestChains
 pub mod LongestChains
+pub mod InRange
+pub mod RunsInRange

@@ -1,3 +1,4 @@
 pub mod Safety
 pub mod Stuck
 pub mod Deepest
+pub mod Ranges

@@ -1,8 +1,9 @@
-//! Facts about runs of valid programs, each the contract of a function that does nothing.
+//! Facts about runs of programs, each the contract of a function that does nothing.
 
 ghost use Rattle.ecd_csafe.specs.Safety.{ValidCalls, ActiveCalls};
 ghost use Rattle.ecd_csafe.specs.Deepest.{HasDeepestChain, HasNoLongerChain, HasHeaviestChain, HasNoHeavierChain};
 ghost use Rattle.ecd_csafe.specs.Stuck.{StuckPlaces};
+ghost use Rattle.ecd_csafe.specs.Ranges.{CallsInRange};
 
 /// Never more calls are active in a call than the longest chain of calls has.
 pub fn active_calls()
@@ -29,4 +30,9 @@ pub fn valid_calls()
 /// A call that is stuck for one of the reasons 1 to 5 is stuck at a statement of a function of the program.
 pub fn stuck_places()
     ensures { StuckPlaces }
+{}
+
+/// A call in a program that has a spelling, whose arguments and memory are in range, returns a number below 2^64 or is stuck, writes only bytes below 256 and cells whose numbers are below 2^64, and leaves such a memory, after each first part of what it does too.
+pub fn calls_in_range()
+    ensures { CallsInRange }
 {}

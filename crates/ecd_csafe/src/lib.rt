@@ -1,4 +1,4 @@
-//! What runs of valid programs keep to, and how deep and how heavy their chains of calls are.
+//! What runs of programs keep to, and how deep and how heavy their chains of calls are.
 #![tactic(auto)]
 
 pub mod laws;

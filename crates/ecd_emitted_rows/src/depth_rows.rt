@@ -5,6 +5,7 @@ ghost use Rattle.std.specs.Prelude.{◌≤◌};
 use ecd_cbuild::builder::{Builder, Valid};
 use ecd_ceval::{Arg, Block, BlockList, Machine};
 use ecd_item::{ItemFault, read_item};
+use ecd_keyorder::Order;
 use ecd_list::OutOfMemory;
 use ecd_rt::runtime;
 use std::alloc::Global;
@@ -178,7 +179,7 @@ fn item_end(
 fn agrees(alloc: Global, valid: &Valid, depth: u8, bytes: &[u8]) -> Result<bool, OutOfMemory>
     requires { depth ≤ 32 }
 {
-    match read_item(alloc, bytes, 0, depth) {
+    match read_item(alloc, Order::Bytewise, bytes, 0, depth) {
         Ok((_, behind)) => {
             let behind = behind as u64;
             let found = any_end(alloc, valid, depth, bytes, 0, behind)?;
@@ -268,7 +269,7 @@ fn item_end_ends_valid_items_and_none_that_is_cut_off(rt: HostRuntime) -> Result
     let alloc = rt.alloc();
     let valid = program(alloc, 0)?;
     for bytes in ROWS.iter() {
-        match read_item(alloc, bytes, 0, 64) {
+        match read_item(alloc, Order::Bytewise, bytes, 0, 64) {
             Ok((_, behind)) => {
                 let end = behind as u64;
                 let found = item_end(alloc, &valid, bytes, end)?;

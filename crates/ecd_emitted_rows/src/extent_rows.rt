@@ -5,6 +5,7 @@ use ecd_cbuild::builder::{Builder, Valid};
 use ecd_ceval::{Arg, Machine};
 use ecd_fixed_heads::{extents, heads};
 use ecd_item::{ItemFault, OutOfMemory, read_item};
+use ecd_keyorder::Order;
 use std::alloc::Global;
 use std::test::Fail;
 
@@ -64,7 +65,7 @@ fn items_end_where_the_reader_ends_them(rt: HostRuntime) -> Result<(), Fail> {
     for bytes in FRONTS.iter() {
         let mut machine = machine(alloc, &valid, bytes)?;
         let length = bytes.len() as u64;
-        match read_item(alloc, bytes, 0, 64) {
+        match read_item(alloc, Order::Bytewise, bytes, 0, 64) {
             Ok((_, behind)) => {
                 let behind = behind as u64;
                 let found = end(&mut machine, &window(0, length, 0), behind);
@@ -109,7 +110,7 @@ fn texts_key_order_and_depth_are_not_judged(rt: HostRuntime) -> Result<(), Fail>
         let looked_at = if *behind == 0 { length } else { *behind };
         let found = end(&mut machine, &window(0, length, 0), looked_at);
         assert_eq!(rt; found, Some(*behind));
-        assert!(rt; read_item(alloc, bytes, 0, 64).is_err());
+        assert!(rt; read_item(alloc, Order::Bytewise, bytes, 0, 64).is_err());
     }
     Ok(())
 }

@@ -1,12 +1,12 @@
 -- Faults that have been taken in.
-use Rattle.std.proofs.Common.{ℕ, ◌+◌, ◌≡◌, ◌<◌, ◌⊎◌, inl, inr, Bool, true, false, List, [], ◌∷◌, ◌++◌, length, take, get_or, refl, ap, sym, ◌∙◌, subst, arith}
+use Rattle.std.proofs.Common.{ℕ, ◌+◌, ◌≡◌, ◌<◌, ◌≤◌, ◌⊎◌, inl, inr, Bool, true, false, List, [], ◌∷◌, ◌++◌, length, take, get_or, refl, ap, sym, ◌∙◌, subst, arith}
 use Rattle.std.specs.Prelude.{Option, Some, None, nat_lt}
 use Rattle.std.specs.List.{Contains}
 use Rattle.std.proofs.lemmas.Bool.Decides.{nat_tests}
 use Rattle.std.proofs.lemmas.List.{take_more}
 use Rattle.std.proofs.lemmas.List.Elements.{Contains-push_cases, Contains-append_left, Contains-push}
 use Rattle.ecd_first.specs.declared.first.Broken.{Broken}
-use Rattle.ecd_first.specs.Firsts.{Faults, ComesNoLater, IsNoLater, Sees, When, EachOf, AnyBelow}
+use Rattle.ecd_first.specs.Firsts.{Rank, IsLess, offset, Faults, ComesNoLater, IsNoLater, Sees, When, EachOf, AnyBelow}
 
 below_or_at : (k i : ℕ) → k < i + 1 → (k < i) ⊎ (k ≡ i)
 below_or_at k i h = by_test (nat_lt k i) refl
@@ -15,20 +15,34 @@ below_or_at k i h = by_test (nat_lt k i) refl
     by_test true e = inl (grind (arith, nat_tests))
     by_test false e = inr (grind (arith, nat_tests))
 
+-- ---- ranks
+
+less_then : (a b c : Rank) → IsLess a b → IsLess b c → IsLess a c
+less_then a b c (inl p) (inl q) = inl (omega arith)
+less_then a b c (inl p) (inr q) = inl (omega (arith, p, q.0))
+less_then a b c (inr p) (inl q) = inl (omega (arith, p.0, q))
+less_then a b c (inr p) (inr q) = inr (p.0 ∙ q.0, omega (arith, p.1, q.1))
+
+-- bytes' offsets
+pub offsets : (place rule other_place other : ℕ) → ComesNoLater offset place rule other_place other → (place < other_place) ⊎ ((place ≡ other_place) × (rule ≤ other))
+offsets place rule other_place other (inl (inl h)) = inl h
+offsets place rule other_place other (inl (inr h)) = let none : ⊥ = omega (arith, h.1) in absurd none
+offsets place rule other_place other (inr h) = inr (ap (λ (r : Rank). r.major) h.0, h.1)
+
 -- both of two kinds of faults
 abbrev pub Either : {X : Type 0} → Faults X → Faults X → Faults X
 Either P Q place rule = P place rule ⊎ Q place rule
 
-module _ {X : Type 0} (rank : X → ℕ) where
+module _ {X : Type 0} (rank : X → Rank) where
   -- ---- the order
 
   pub no_later_itself : (b : Broken X) → IsNoLater rank (Some b) b.place b.rule
   no_later_itself b = inr (refl, omega arith)
 
   pub no_later_then : (b c : Broken X) (place : X) (rule : ℕ) → IsNoLater rank (Some c) b.place b.rule → IsNoLater rank (Some b) place rule → IsNoLater rank (Some c) place rule
-  no_later_then b c place rule (inl p) (inl q) = inl (omega arith)
-  no_later_then b c place rule (inl p) (inr q) = inl (omega (arith, p, q.0))
-  no_later_then b c place rule (inr p) (inl q) = inl (omega (arith, p.0, q))
+  no_later_then b c place rule (inl p) (inl q) = inl (less_then (rank c.place) (rank b.place) (rank place) p q)
+  no_later_then b c place rule (inl p) (inr q) = inl (subst (IsLess (rank c.place)) q.0 p)
+  no_later_then b c place rule (inr p) (inl q) = inl (subst (λ (r : Rank). IsLess r (rank place)) (sym p.0) q)
   no_later_then b c place rule (inr p) (inr q) = inr (p.0 ∙ q.0, omega (arith, p.1, q.1))
 
   passes_on : (mid new : Option (Broken X)) → ((b : Broken X) → mid ≡ Some b → IsNoLater rank new b.place b.rule) → (place : X) (rule : ℕ) → IsNoLater rank mid place rule → IsNoLater rank new place rule

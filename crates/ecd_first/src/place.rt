@@ -1,16 +1,16 @@
 //! Places of faults.
 
-ghost use Rattle.std.specs.Prelude.{◌≡◌, ℕ, nat_lt};
-ghost use Rattle.ecd_first.specs.Firsts.{offset};
+ghost use Rattle.std.specs.Prelude.{◌≡◌};
+ghost use Rattle.ecd_first.specs.Firsts.{Rank, is_less, offset};
 
 /// A place that has a rank: the place of less rank comes first.
 pub trait Place: Copy {
-    /// Where it stands among all places.
-    ghost rank: { Self → ℕ };
+    /// Where it stands among all places: by a major number, then by a minor one.
+    ghost rank: { Self → Rank };
 
     /// Whether it stands before the other.
     fn comes_before(self, other: Self) -> bool
-        ensures { result ≡ nat_lt (rank self) (rank other) };
+        ensures { result ≡ is_less (rank self) (rank other) };
 }
 
 /// A byte's offset.

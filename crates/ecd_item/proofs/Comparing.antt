@@ -125,8 +125,8 @@ module _ (order : Order) where
   pub items_apart : (i j : Item) → IsValid order i → IsValid order j → Apart (encoding i) (encoding j)
   items_apart i j p q u w e = ap encoding (one_item order i j u w p q e).0
 
-pub writable_as : (i : Item) (h : Head) → h ≡ head_of i → IsValid Bytewise i → CanWrite h
-writable_as i h e v = subst CanWrite (sym e) (head_writable Bytewise i v)
+pub writable_as : (order : Order) (i : Item) (h : Head) → h ≡ head_of i → IsValid order i → CanWrite h
+writable_as order i h e v = subst CanWrite (sym e) (head_writable order i v)
 
 -- ---- two items
 
@@ -135,24 +135,24 @@ pub record SameHead (a b : Item) : Type 0 where
   pub arg : (head_of a).arg ≡ (head_of b).arg
   pub behind : cmp (encoding a) (encoding b) ≡ cmp (body_of a) (body_of b)
 
-split_items : (a b : Item) → IsValid Bytewise a → IsValid Bytewise b → cmp (encoding a) (encoding b) ≡ ordering_then (cmp (head_text (head_of a)) (head_text (head_of b))) (cmp (body_of a) (body_of b))
-split_items a b p q =
-    rw (head_body a, head_body b) (cmp_split (head_text (head_of a)) (head_text (head_of b)) (body_of a) (body_of b) (heads_apart (head_of a) (head_of b) (head_writable Bytewise a p) (head_writable Bytewise b q)))
+split_items : (order : Order) (a b : Item) → IsValid order a → IsValid order b → cmp (encoding a) (encoding b) ≡ ordering_then (cmp (head_text (head_of a)) (head_text (head_of b))) (cmp (body_of a) (body_of b))
+split_items order a b p q =
+    rw (head_body a, head_body b) (cmp_split (head_text (head_of a)) (head_text (head_of b)) (body_of a) (body_of b) (heads_apart (head_of a) (head_of b) (head_writable order a p) (head_writable order b q)))
 
-pub heads_differ : (a b : Item) (g h : Head) (o : Ordering) → g ≡ head_of a → h ≡ head_of b → IsValid Bytewise a → IsValid Bytewise b → o ≡ cmp (head_text g) (head_text h) → is_ne o ≡ true → o ≡ cmp (encoding a) (encoding b)
-heads_differ a b g h o eg eh p q e ne =
+pub heads_differ : (order : Order) (a b : Item) (g h : Head) (o : Ordering) → g ≡ head_of a → h ≡ head_of b → IsValid order a → IsValid order b → o ≡ cmp (head_text g) (head_text h) → is_ne o ≡ true → o ≡ cmp (encoding a) (encoding b)
+heads_differ order a b g h o eg eh p q e ne =
     let f : cmp (head_text (head_of a)) (head_text (head_of b)) ≡ o = rw (← eg, ← eh) (sym e) in
-    sym (split_items a b p q ∙ (ap (λ (x : Ordering). ordering_then x (cmp (body_of a) (body_of b))) f ∙ differ o (cmp (body_of a) (body_of b)) ne))
+    sym (split_items order a b p q ∙ (ap (λ (x : Ordering). ordering_then x (cmp (body_of a) (body_of b))) f ∙ differ o (cmp (body_of a) (body_of b)) ne))
 
-pub heads_same : (a b : Item) (g h : Head) (o : Ordering) → g ≡ head_of a → h ≡ head_of b → IsValid Bytewise a → IsValid Bytewise b → o ≡ cmp (head_text g) (head_text h) → is_ne o ≡ false → SameHead a b
-heads_same a b g h o eg eh p q e ne =
+pub heads_same : (order : Order) (a b : Item) (g h : Head) (o : Ordering) → g ≡ head_of a → h ≡ head_of b → IsValid order a → IsValid order b → o ≡ cmp (head_text g) (head_text h) → is_ne o ≡ false → SameHead a b
+heads_same order a b g h o eg eh p q e ne =
     let f : cmp (head_text (head_of a)) (head_text (head_of b)) ≡ Equal = rw (← eg, ← eh) (sym e ∙ not_ne o ne) in
     let t : head_text (head_of a) ≡ head_text (head_of b) = exact_bytes (head_text (head_of a)) (head_text (head_of b)) f in
-    let s = same_head (head_of a) (head_of b) (head_writable Bytewise a p) (head_writable Bytewise b q) t in
+    let s = same_head (head_of a) (head_of b) (head_writable order a p) (head_writable order b q) t in
     record {
       major = s.0;
       arg = s.1;
-      behind = split_items a b p q ∙ ap (λ (x : Ordering). ordering_then x (cmp (body_of a) (body_of b))) f;
+      behind = split_items order a b p q ∙ ap (λ (x : Ordering). ordering_then x (cmp (body_of a) (body_of b))) f;
     }
 
 -- ---- what an item of a major type has
@@ -186,13 +186,13 @@ string_body = item_ind (λ i. ((head_of i).major ≡ 2) ⊎ ((head_of i).major �
 record ArrayParts (i : Item) : Type 0 where
   text : body_of i ≡ joined (map encoding (items_in i))
   count : length (items_in i) ≡ (head_of i).arg
-  valid : IsValid Bytewise i → AllByRecursion (IsValid Bytewise) (items_in i)
+  valid : (order : Order) → IsValid order i → AllByRecursion (IsValid order) (items_in i)
 
 array_parts_of : (xs : List Item) → ArrayParts (Array xs)
 array_parts_of xs = record {
   text = body_of-Array xs ∙ ap (λ (ys : List Item). joined (map encoding ys)) (sym (items_in-Array xs));
   count = ap length (items_in-Array xs) ∙ sym (ap (λ (h : Head). h.arg) (head_of-Array xs));
-  valid = λ v. subst (AllByRecursion (IsValid Bytewise)) (sym (items_in-Array xs)) (valid_Array Bytewise xs v).1;
+  valid = λ order v. subst (AllByRecursion (IsValid order)) (sym (items_in-Array xs)) (valid_Array order xs v).1;
 }
 
 array_parts : (i : Item) → (head_of i).major ≡ 4 → ArrayParts i
@@ -211,13 +211,13 @@ array_parts = item_ind (λ i. (head_of i).major ≡ 4 → ArrayParts i) (record 
 record MapParts (i : Item) : Type 0 where
   text : body_of i ≡ joined (map pair_bytes (pairs_in i))
   count : length (pairs_in i) ≡ (head_of i).arg
-  valid : IsValid Bytewise i → AllByRecursion (IsValidPair Bytewise) (pairs_in i)
+  valid : (order : Order) → IsValid order i → AllByRecursion (IsValidPair order) (pairs_in i)
 
 map_parts_of : (ps : List Pair) → MapParts (Map ps)
 map_parts_of ps = record {
   text = body_of-Map ps ∙ ap (λ (qs : List Pair). joined (map pair_bytes qs)) (sym (pairs_in-Map ps));
   count = ap length (pairs_in-Map ps) ∙ sym (ap (λ (h : Head). h.arg) (head_of-Map ps));
-  valid = λ v. subst (AllByRecursion (IsValidPair Bytewise)) (sym (pairs_in-Map ps)) (valid_Map Bytewise ps v).1;
+  valid = λ order v. subst (AllByRecursion (IsValidPair order)) (sym (pairs_in-Map ps)) (valid_Map order ps v).1;
 }
 
 map_parts : (i : Item) → (head_of i).major ≡ 5 → MapParts i
@@ -237,7 +237,7 @@ record TagPart (i : Item) : Type 0 where
   item : Item
   is : enclosed_in i ≡ Some item
   text : body_of i ≡ encoding item
-  valid : IsValid Bytewise i → IsValid Bytewise item
+  valid : (order : Order) → IsValid order i → IsValid order item
 
 tag_part : (i : Item) → (head_of i).major ≡ 6 → TagPart i
 unfolding head_of
@@ -248,7 +248,7 @@ tag_part = item_ind (λ i. (head_of i).major ≡ 6 → TagPart i) (record {
   text = λ bs h. absurd (omega arith);
   array = λ xs r h. absurd (omega arith);
   pairs = λ ps r h. absurd (omega arith);
-  tag = λ n x r h. record { item = x; is = enclosed_in-Tag n x; text = body_of-Tag n x; valid = λ v. (valid_Tag Bytewise n x v).1 };
+  tag = λ n x r h. record { item = x; is = enclosed_in-Tag n x; text = body_of-Tag n x; valid = λ order v. (valid_Tag order n x v).1 };
   simple = λ n h. absurd (omega arith);
 })
 
@@ -296,12 +296,12 @@ array_arm a b xs s t o is se te oe same =
     let q : body_of b ≡ joined (map encoding t) = (array_parts b e.1).text ∙ ap (λ (ys : List Item). joined (map encoding ys)) (sym te) in
     oe ∙ sym (same.behind ∙ (ap (λ (x : List ℕ). cmp x (body_of b)) p ∙ ap (cmp (joined (map encoding s))) q))
 
-pub array_needs : (a b : Item) (xs s t : List Item) → a ≡ Array xs → s ≡ xs → t ≡ items_in b → IsValid Bytewise a → IsValid Bytewise b → SameHead a b → (length s ≡ length t) × AllByRecursion (IsValid Bytewise) s × AllByRecursion (IsValid Bytewise) t
-array_needs a b xs s t is se te va vb same =
+pub array_needs : (order : Order) (a b : Item) (xs s t : List Item) → a ≡ Array xs → s ≡ xs → t ≡ items_in b → IsValid order a → IsValid order b → SameHead a b → (length s ≡ length t) × AllByRecursion (IsValid order) s × AllByRecursion (IsValid order) t
+array_needs order a b xs s t is se te va vb same =
     let e = major_is a b (Array xs) 4 is (ap (λ (h : Head). h.major) (head_of-Array xs)) same in
     let p = array_parts b e.1 in
     let n : length xs ≡ (head_of a).arg = sym (ap (λ (h : Head). h.arg) (ap head_of is ∙ head_of-Array xs)) in
-    (ap length se ∙ (n ∙ (same.arg ∙ (sym p.count ∙ sym (ap length te)))), subst (AllByRecursion (IsValid Bytewise)) (sym se) (valid_Array Bytewise xs (subst (IsValid Bytewise) is va)).1, subst (AllByRecursion (IsValid Bytewise)) (sym te) (p.valid vb))
+    (ap length se ∙ (n ∙ (same.arg ∙ (sym p.count ∙ sym (ap length te)))), subst (AllByRecursion (IsValid order)) (sym se) (valid_Array order xs (subst (IsValid order) is va)).1, subst (AllByRecursion (IsValid order)) (sym te) (p.valid order vb))
 
 pub map_arm : (a b : Item) (ps s t : List Pair) (o : Ordering) → a ≡ Map ps → s ≡ ps → t ≡ pairs_in b → o ≡ cmp (joined (map pair_bytes s)) (joined (map pair_bytes t)) → SameHead a b → o ≡ cmp (encoding a) (encoding b)
 map_arm a b ps s t o is se te oe same =
@@ -310,12 +310,12 @@ map_arm a b ps s t o is se te oe same =
     let q : body_of b ≡ joined (map pair_bytes t) = (map_parts b e.1).text ∙ ap (λ (qs : List Pair). joined (map pair_bytes qs)) (sym te) in
     oe ∙ sym (same.behind ∙ (ap (λ (x : List ℕ). cmp x (body_of b)) p ∙ ap (cmp (joined (map pair_bytes s))) q))
 
-pub map_needs : (a b : Item) (ps s t : List Pair) → a ≡ Map ps → s ≡ ps → t ≡ pairs_in b → IsValid Bytewise a → IsValid Bytewise b → SameHead a b → (length s ≡ length t) × AllByRecursion (IsValidPair Bytewise) s × AllByRecursion (IsValidPair Bytewise) t
-map_needs a b ps s t is se te va vb same =
+pub map_needs : (order : Order) (a b : Item) (ps s t : List Pair) → a ≡ Map ps → s ≡ ps → t ≡ pairs_in b → IsValid order a → IsValid order b → SameHead a b → (length s ≡ length t) × AllByRecursion (IsValidPair order) s × AllByRecursion (IsValidPair order) t
+map_needs order a b ps s t is se te va vb same =
     let e = major_is a b (Map ps) 5 is (ap (λ (h : Head). h.major) (head_of-Map ps)) same in
     let p = map_parts b e.1 in
     let n : length ps ≡ (head_of a).arg = sym (ap (λ (h : Head). h.arg) (ap head_of is ∙ head_of-Map ps)) in
-    (ap length se ∙ (n ∙ (same.arg ∙ (sym p.count ∙ sym (ap length te)))), subst (AllByRecursion (IsValidPair Bytewise)) (sym se) (valid_Map Bytewise ps (subst (IsValid Bytewise) is va)).1, subst (AllByRecursion (IsValidPair Bytewise)) (sym te) (p.valid vb))
+    (ap length se ∙ (n ∙ (same.arg ∙ (sym p.count ∙ sym (ap length te)))), subst (AllByRecursion (IsValidPair order)) (sym se) (valid_Map order ps (subst (IsValid order) is va)).1, subst (AllByRecursion (IsValidPair order)) (sym te) (p.valid order vb))
 
 some_is : (x y : Item) → Some x ≡ Some y → x ≡ y
 some_is x y e = cc
@@ -328,11 +328,11 @@ tag_arm a b n x g y o is ge ye oe same =
     let q : body_of b ≡ encoding y = t.text ∙ ap encoding (sym (some_is y t.item (ye ∙ t.is))) in
     oe ∙ sym (same.behind ∙ (ap (λ (z : List ℕ). cmp z (body_of b)) p ∙ ap (cmp (encoding g)) q))
 
-pub tag_needs : (a b : Item) (n : ℕ) (x g y : Item) → a ≡ Tag n x → g ≡ x → Some y ≡ enclosed_in b → IsValid Bytewise a → IsValid Bytewise b → SameHead a b → IsValid Bytewise g × IsValid Bytewise y
-tag_needs a b n x g y is ge ye va vb same =
+pub tag_needs : (order : Order) (a b : Item) (n : ℕ) (x g y : Item) → a ≡ Tag n x → g ≡ x → Some y ≡ enclosed_in b → IsValid order a → IsValid order b → SameHead a b → IsValid order g × IsValid order y
+tag_needs order a b n x g y is ge ye va vb same =
     let e = major_is a b (Tag n x) 6 is (ap (λ (h : Head). h.major) (head_of-Tag n x)) same in
     let t = tag_part b e.1 in
-    (subst (IsValid Bytewise) (sym ge) (valid_Tag Bytewise n x (subst (IsValid Bytewise) is va)).1, subst (IsValid Bytewise) (sym (some_is y t.item (ye ∙ t.is))) (t.valid vb))
+    (subst (IsValid order) (sym ge) (valid_Tag order n x (subst (IsValid order) is va)).1, subst (IsValid order) (sym (some_is y t.item (ye ∙ t.is))) (t.valid order vb))
 
 pub tag_none : {A : Type 0} (a b : Item) (n : ℕ) (x : Item) → a ≡ Tag n x → None ≡ enclosed_in b → SameHead a b → A
 tag_none a b n x is ye same =
@@ -374,16 +374,16 @@ module _ {A : Type 0} where
   pub valid_at : (P : A → Type 0) (xs : List A) (i : ℕ) (x : A) → i < length xs → x ≡ get_or xs i x → AllByRecursion P xs → P x
   valid_at P xs i x lt xe h = subst P (sym xe) (at_place P xs i x lt h)
 
-pub pairs_apart : (p q : Pair) → IsValidPair Bytewise p → IsValidPair Bytewise q → Apart (pair_bytes p) (pair_bytes q)
-pairs_apart p q vp vq u w e =
+pub pairs_apart : (order : Order) (p q : Pair) → IsValidPair order p → IsValidPair order q → Apart (pair_bytes p) (pair_bytes q)
+pairs_apart order p q vp vq u w e =
     let whole : encoding p.key ++ (encoding p.value ++ u) ≡ encoding q.key ++ (encoding q.value ++ w) = sym (append_assoc (encoding p.key) (encoding p.value) u) ∙ (e ∙ append_assoc (encoding q.key) (encoding q.value) w) in
-    let k = one_item Bytewise p.key q.key (encoding p.value ++ u) (encoding q.value ++ w) vp.0 vq.0 whole in
-    let v = one_item Bytewise p.value q.value u w vp.1 vq.1 k.1 in
+    let k = one_item order p.key q.key (encoding p.value ++ u) (encoding q.value ++ w) vp.0 vq.0 whole in
+    let v = one_item order p.value q.value u w vp.1 vq.1 k.1 in
     ap (λ (i : Item). encoding i ++ encoding p.value) k.0 ∙ ap (λ (i : Item). encoding q.key ++ encoding i) v.0
 
-pub keys_decide : (p q : Pair) (o : Ordering) → IsValidPair Bytewise p → IsValidPair Bytewise q → o ≡ cmp (encoding p.key) (encoding q.key) → is_ne o ≡ true → cmp (pair_bytes p) (pair_bytes q) ≡ o
-keys_decide p q o vp vq e ne =
-    cmp_split (encoding p.key) (encoding q.key) (encoding p.value) (encoding q.value) (items_apart Bytewise p.key q.key vp.0 vq.0)
+pub keys_decide : (order : Order) (p q : Pair) (o : Ordering) → IsValidPair order p → IsValidPair order q → o ≡ cmp (encoding p.key) (encoding q.key) → is_ne o ≡ true → cmp (pair_bytes p) (pair_bytes q) ≡ o
+keys_decide order p q o vp vq e ne =
+    cmp_split (encoding p.key) (encoding q.key) (encoding p.value) (encoding q.value) (items_apart order p.key q.key vp.0 vq.0)
     ∙ (ap (λ (r : Ordering). ordering_then r (cmp (encoding p.value) (encoding q.value))) (sym e) ∙ differ o (cmp (encoding p.value) (encoding q.value)) ne)
 
 pub values_decide : (p q : Pair) (o r : Ordering) → o ≡ cmp (encoding p.key) (encoding q.key) → is_ne o ≡ false → r ≡ cmp (encoding p.value) (encoding q.value) → cmp (pair_bytes p) (pair_bytes q) ≡ r

@@ -202,5 +202,10 @@ module _ (order : Order) where
   pub pairs_fail : (d : ℕ) (ps : List Pair) (i : ℕ) (x : Pair) → i < length ps → x ≡ get_or ps i x → (IsWholePair order d x → ⊥) → IsTrue false ↔ (AllByRecursion (IsWholePair order d) ps × Ascend order (map key_bytes ps))
   pairs_fail d ps i x lt xe out = ((λ t. absurd cc), (λ a. absurd (out (subst (IsWholePair order d) (sym xe) (at_place (IsWholePair order d) ps i x lt a.0)))))
 
-  pub pairs_valid : (d : ℕ) (ps : List Pair) (i : ℕ) → length ps ≤ i → AllByRecursion (IsWholePair order d) (take i ps) → AllByRecursion (IsValidPair order) ps
-  pairs_valid d ps i le h = (each_pair_whole order d ps (subst (AllByRecursion (IsWholePair order d)) (take_all i ps le) h)).0
+  -- what nests no deeper than one depth nests no deeper than a greater one
+  pairs_deeper : (d e : ℕ) (ps : List Pair) → d ≤ e → AllByRecursion (IsWholePair order d) ps → AllByRecursion (IsWholePair order e) ps
+  pairs_deeper d e [] le h = tt
+  pairs_deeper d e (p ∷ ps) le h = (((h.0.0.0, omega (arith, h.0.0.1)), (h.0.1.0, omega (arith, h.0.1.1))), pairs_deeper d e ps le h.1)
+
+  pub pairs_whole : (d e : ℕ) (ps : List Pair) (i : ℕ) → d ≤ e → length ps ≤ i → AllByRecursion (IsWholePair order d) (take i ps) → AllByRecursion (IsWholePair order e) ps
+  pairs_whole d e ps i deeper le h = pairs_deeper d e ps deeper (subst (AllByRecursion (IsWholePair order d)) (take_all i ps le) h)

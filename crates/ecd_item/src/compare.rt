@@ -1,13 +1,14 @@
 //! Comparing the encodings of items without building them.
 
 ghost use Rattle.std.specs.Prelude.{◌≡◌, ◌+◌, length, map};
-ghost use Rattle.std.specs.List.{AllByRecursion};
 ghost use Rattle.ecd_head.specs.Head.{head_bytes, IsWritable};
 ghost use Rattle.ecd_keyorder.specs.Order.{comparison};
 ghost use Rattle.ecd_keyorder.specs.declared.Order.TheVariants.{Bytewise};
 ghost use Rattle.ecd_item_laws.specs.Encoding.{encoding, pair_bytes, joined};
-ghost use Rattle.ecd_item_laws.specs.Valid.{IsValid, IsValidPair};
+ghost use Rattle.ecd_item_laws.specs.Valid.{IsWhole};
+ghost use Rattle.ecd_item.specs.Valid.{HaveEncodings, ItemsHaveEncodings, PairsHaveEncodings};
 
+use crate::measure::compare_lengths;
 use crate::parts::{enclosed_by, head_of, items_of, pairs_of, string_of};
 use crate::write::emit_head;
 use ecd_head::Head;
@@ -18,7 +19,7 @@ use std::cmp::Ordering;
 /// The most bytes that a head has.
 const MOST_HEAD_BYTES: usize = 9;
 
-/// Which of two heads comes first.
+/// Which of two heads comes first in the bytewise order.
 fn compare_heads(one: Head, other: Head) -> Ordering
     requires one_writable { IsWritable one.major one.arg }
     requires other_writable { IsWritable other.major other.arg }
@@ -35,11 +36,28 @@ fn compare_heads(one: Head, other: Head) -> Ordering
     )
 }
 
-/// Which of two items' encodings comes first.
+/// Which of two items' encodings comes first in the order. It takes no memory.
+pub(crate) fn compare_in(order: Order, one: &Item, other: &Item) -> Ordering
+    requires one_whole { IsWhole order 64 one.now }
+    requires other_whole { IsWhole order 64 other.now }
+    ensures { result ≡ comparison order (encoding one.now) (encoding other.now) }
+{
+    match order {
+        Order::Bytewise => compare_encodings(one, other),
+        Order::LengthFirst => {
+            let lengths = compare_lengths(one, other);
+            if lengths.is_ne() {
+                return lengths;
+            }
+            compare_encodings(one, other)
+        }
+    }
+}
+
+/// Which of two items' encodings comes first in the bytewise order.
 #[cycle(comparing)]
-pub(crate) fn compare_encodings(one: &Item, other: &Item) -> Ordering
-    requires one_valid { IsValid Bytewise one.now }
-    requires other_valid { IsValid Bytewise other.now }
+fn compare_encodings(one: &Item, other: &Item) -> Ordering
+    requires { HaveEncodings one.now other.now }
     ensures { result ≡ comparison Bytewise (encoding one.now) (encoding other.now) }
 {
     let heads = compare_heads(head_of(one), head_of(other));
@@ -64,8 +82,7 @@ pub(crate) fn compare_encodings(one: &Item, other: &Item) -> Ordering
 #[cycle(comparing)]
 fn compare_items(some: &[Item], others: &[Item]) -> Ordering
     requires as_many { length some.now ≡ length others.now }
-    requires some_valid { AllByRecursion (IsValid Bytewise) some.now }
-    requires others_valid { AllByRecursion (IsValid Bytewise) others.now }
+    requires valid { ItemsHaveEncodings some.now others.now }
     ensures { result ≡ comparison Bytewise (joined (map encoding some.now)) (joined (map encoding others.now)) }
 {
     for (at, item) in some.iter().enumerate() {
@@ -80,8 +97,7 @@ fn compare_items(some: &[Item], others: &[Item]) -> Ordering
 #[cycle(comparing)]
 fn compare_pairs(some: &[Pair], others: &[Pair]) -> Ordering
     requires as_many { length some.now ≡ length others.now }
-    requires some_valid { AllByRecursion (IsValidPair Bytewise) some.now }
-    requires others_valid { AllByRecursion (IsValidPair Bytewise) others.now }
+    requires valid { PairsHaveEncodings some.now others.now }
     ensures { result ≡ comparison Bytewise (joined (map pair_bytes some.now)) (joined (map pair_bytes others.now)) }
 {
     for (at, pair) in some.iter().enumerate() {

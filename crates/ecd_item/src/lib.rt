@@ -1,8 +1,9 @@
-//! Data items read, judged, measured and written in their deterministic encoding: RFC 8949, sections 2, 3 and 4.2.1.
+//! Data items read, judged, measured and written in their deterministic encoding: RFC 8949, sections 2, 3, 4.2.1 and 4.2.3.
 #![tactic(auto)]
 
 mod compare;
 mod fault;
+mod measure;
 mod parts;
 mod read;
 mod valid;
@@ -12,6 +13,7 @@ pub use ecd_head::NoRoom;
 pub use ecd_item_laws::{Cause, Item, ItemList, Pair, PairList};
 pub use ecd_list::{Boxed, ByteList, OutOfMemory};
 pub use fault::ItemFault;
+pub use measure::length_of;
 pub use read::read_item;
 pub use valid::is_valid;
-pub use write::{length_of, write_item};
+pub use write::write_item;

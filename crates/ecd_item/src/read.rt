@@ -5,7 +5,6 @@ ghost use Rattle.std.specs.Option.{option_copied};
 ghost use Rattle.std.specs.Str.{is_utf8};
 ghost use Rattle.ecd_head.specs.Fault.{head_at};
 ghost use Rattle.ecd_head.specs.Place.{StandsAt};
-ghost use Rattle.ecd_keyorder.specs.declared.Order.TheVariants.{Bytewise};
 ghost use Rattle.ecd_item_laws.specs.Encoding.{encoding};
 ghost use Rattle.ecd_item_laws.specs.Valid.{IsWhole};
 ghost use Rattle.ecd_item_laws.specs.declared.fault.Cause.{Cause};
@@ -110,14 +109,20 @@ fn text_of(
 
 #[cycle(reading)]
 #[tactic(auto, unfolding(ecd_item_laws::specs::Reading::item_at, ecd_item_laws::specs::Reading::layer, ecd_item_laws::specs::Reading::inner_of))]
-fn item_of(alloc: Global, bytes: &[u8], at: usize, depth: u8) -> Result<(Item, usize), Stop>
+fn item_of(
+    alloc: Global,
+    order: Order,
+    bytes: &[u8],
+    at: usize,
+    depth: u8,
+) -> Result<(Item, usize), Stop>
     requires { at ≤ length bytes.now }
-    ensures gives { Gives (seen bytes.now) result (item_at Bytewise depth at (drop at bytes.now)) }
+    ensures gives { Gives (seen bytes.now) result (item_at order depth at (drop at bytes.now)) }
     ensures within { IfOk result (λ x. x.1 ≤ length bytes.now) }
     ensures after { IfOk result (λ x. at ≤ x.1) }
 {
     let (head, behind) = head_of(bytes, at)?;
-    behind_of(alloc, bytes, at, head, behind, depth)
+    behind_of(alloc, order, bytes, at, head, behind, depth)
 }
 
 /// What stands behind a head.
@@ -125,6 +130,7 @@ fn item_of(alloc: Global, bytes: &[u8], at: usize, depth: u8) -> Result<(Item, u
 #[tactic(auto, unfolding(ecd_item_laws::specs::Reading::behind))]
 fn behind_of(
     alloc: Global,
+    order: Order,
     bytes: &[u8],
     place: usize,
     head: Head,
@@ -133,7 +139,7 @@ fn behind_of(
 ) -> Result<(Item, usize), Stop>
     requires place_within { at ≤ length bytes.now }
     requires simple { head.major ≡ 7 → head.arg < 256 }
-    ensures gives { Gives (seen bytes.now) result (behind Bytewise (inner_of Bytewise depth) place head at (drop at bytes.now)) }
+    ensures gives { Gives (seen bytes.now) result (behind order (inner_of order depth) place head at (drop at bytes.now)) }
     ensures within { IfOk result (λ x. x.1 ≤ length bytes.now) }
     ensures after { IfOk result (λ x. at ≤ x.1) }
 {
@@ -149,7 +155,7 @@ fn behind_of(
             Ok((Item::Text(text), end))
         }
         7 => Ok((Item::Simple(head.arg as u8), at)),
-        _ => parts_of(alloc, bytes, place, head, at, depth),
+        _ => parts_of(alloc, order, bytes, place, head, at, depth),
     }
 }
 
@@ -157,6 +163,7 @@ fn behind_of(
 #[tactic(auto, unfolding(ecd_item_laws::specs::Reading::parts, ecd_item_laws::specs::Reading::inner_of))]
 fn parts_of(
     alloc: Global,
+    order: Order,
     bytes: &[u8],
     place: usize,
     head: Head,
@@ -164,7 +171,7 @@ fn parts_of(
     depth: u8,
 ) -> Result<(Item, usize), Stop>
     requires { at ≤ length bytes.now }
-    ensures gives { Gives (seen bytes.now) result (parts Bytewise (inner_of Bytewise depth) place head at (drop at bytes.now)) }
+    ensures gives { Gives (seen bytes.now) result (parts order (inner_of order depth) place head at (drop at bytes.now)) }
     ensures within { IfOk result (λ x. x.1 ≤ length bytes.now) }
     ensures after { IfOk result (λ x. at ≤ x.1) }
 {
@@ -175,14 +182,14 @@ fn parts_of(
         }));
     }
     if head.major == 4 {
-        let (items, end) = items_of(alloc, bytes, head.arg, at, depth - 1)?;
+        let (items, end) = items_of(alloc, order, bytes, head.arg, at, depth - 1)?;
         return Ok((Item::Array(items), end));
     }
     if head.major == 5 {
-        let (pairs, end) = pairs_of(alloc, bytes, head.arg, at, depth - 1)?;
+        let (pairs, end) = pairs_of(alloc, order, bytes, head.arg, at, depth - 1)?;
         return Ok((Item::Map(pairs), end));
     }
-    let (inner, end) = item_of(alloc, bytes, at, depth - 1)?;
+    let (inner, end) = item_of(alloc, order, bytes, at, depth - 1)?;
     Ok((Item::Tag(head.arg, Boxed::new(alloc, inner)?), end))
 }
 
@@ -190,37 +197,39 @@ fn parts_of(
 #[cycle(reading)]
 fn items_of(
     alloc: Global,
+    order: Order,
     bytes: &[u8],
     count: u64,
     at: usize,
     depth: u8,
 ) -> Result<(List<Item>, usize), Stop>
     requires { at ≤ length bytes.now }
-    ensures gives { Gives (seen bytes.now) result (many (item_at Bytewise depth) count at (drop at bytes.now)) }
+    ensures gives { Gives (seen bytes.now) result (many (item_at order depth) count at (drop at bytes.now)) }
     ensures within { IfOk result (λ x. x.1 ≤ length bytes.now) }
     ensures after { IfOk result (λ x. at ≤ x.1) }
 {
     let mut items = List::new(alloc);
     let mut here = at;
     for _ in 0..count {
-        let (item, end) = item_of(alloc, bytes, here, depth)?;
+        let (item, end) = item_of(alloc, order, bytes, here, depth)?;
         items.push(item)?;
         here = end;
     }
     Ok((items, here))
 }
 
-/// The pairs of a map, with keys that ascend.
+/// The pairs of a map, with keys that ascend in the order.
 #[cycle(reading)]
 fn pairs_of(
     alloc: Global,
+    order: Order,
     bytes: &[u8],
     count: u64,
     at: usize,
     depth: u8,
 ) -> Result<(List<Pair>, usize), Stop>
     requires { at ≤ length bytes.now }
-    ensures gives { Gives (seen bytes.now) result (pairs Bytewise (item_at Bytewise depth) None count at (drop at bytes.now)) }
+    ensures gives { Gives (seen bytes.now) result (pairs order (item_at order depth) None count at (drop at bytes.now)) }
     ensures within { IfOk result (λ x. x.1 ≤ length bytes.now) }
     ensures after { IfOk result (λ x. at ≤ x.1) }
 {
@@ -228,15 +237,15 @@ fn pairs_of(
     let mut here = at;
     let mut last: Option<&[u8]> = None;
     for _ in 0..count {
-        let (key, key_end) = item_of(alloc, bytes, here, depth)?;
+        let (key, key_end) = item_of(alloc, order, bytes, here, depth)?;
         let key_bytes = &bytes[here..key_end];
-        if !may_follow(last, key_bytes) {
+        if !may_follow(order, last, key_bytes) {
             return Err(Stop::Fault(Fault {
                 place: here,
                 cause: Cause::KeyOrder,
             }));
         }
-        let (value, end) = item_of(alloc, bytes, key_end, depth)?;
+        let (value, end) = item_of(alloc, order, bytes, key_end, depth)?;
         pairs.push(Pair { key, value })?;
         last = Some(key_bytes);
         here = end;
@@ -245,16 +254,17 @@ fn pairs_of(
 }
 
 /// Whether a key may stand behind the last one.
-fn may_follow(last: Option<&[u8]>, key: &[u8]) -> bool
-    ensures { result ≡ is_above Bytewise (option_copied last.entry) key.now }
+fn may_follow(order: Order, last: Option<&[u8]>, key: &[u8]) -> bool
+    ensures { result ≡ is_above order (option_copied last.entry) key.now }
 {
     match last {
         None => true,
-        Some(before) => compare(Order::Bytewise, before, key) == Ordering::Less,
+        Some(before) => compare(order, before, key) == Ordering::Less,
     }
 }
 
-/// The item whose encoding stands at a place, of at most this depth, and the place behind it (RFC 8949, sections 3 and 4.2.1).
+/// The item whose encoding stands at a place, of at most this depth, with the keys of its maps in the order, and the place behind it
+/// (RFC 8949, sections 3, 4.2.1 and 4.2.3).
 ///
 /// # Errors
 ///
@@ -263,6 +273,7 @@ fn may_follow(last: Option<&[u8]>, key: &[u8]) -> bool
 /// 8 at a whole key that is not above the one before it. Or `ItemFault::OutOfMemory`.
 pub fn read_item(
     alloc: Global,
+    order: Order,
     bytes: &[u8],
     at: usize,
     depth: u8,
@@ -271,12 +282,12 @@ pub fn read_item(
     requires shallow { depth ≤ 64 }
 
     // What is read stands there, and what stands there is read.
-    ensures found { IfOk result (λ x. IsWhole Bytewise depth x.0 × StandsAt bytes.now at (encoding x.0) x.1) }
-    ensures only { (item : Item) (end : ℕ) → IsWhole Bytewise depth item → StandsAt bytes.now at (encoding item) end → Answers result (Ok (item, end)) }
+    ensures found { IfOk result (λ x. IsWhole order depth x.0 × StandsAt bytes.now at (encoding x.0) x.1) }
+    ensures only { (item : Item) (end : ℕ) → IsWhole order depth item → StandsAt bytes.now at (encoding item) end → Answers result (Ok (item, end)) }
 
     // The first fault is named, and where there is one it is.
-    ensures fault { IfErr result (TellsFirstFault Bytewise depth at (drop at bytes.now)) }
-    ensures refused { (place : ℕ) (cause : Cause) → IsFirstFault Bytewise depth at (drop at bytes.now) place cause → Answers result (Err (ItemFault.At place (number_of cause))) }
+    ensures fault { IfErr result (TellsFirstFault order depth at (drop at bytes.now)) }
+    ensures refused { (place : ℕ) (cause : Cause) → IsFirstFault order depth at (drop at bytes.now) place cause → Answers result (Err (ItemFault.At place (number_of cause))) }
 {
-    told(item_of(alloc, bytes, at, depth))
+    told(item_of(alloc, order, bytes, at, depth))
 }

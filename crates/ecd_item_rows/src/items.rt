@@ -2,11 +2,12 @@ use ecd_item::{
     Boxed, ByteList, Cause, Item, ItemFault, NoRoom, OutOfMemory, Pair, PairList, is_valid,
     length_of, read_item, write_item,
 };
+use ecd_keyorder::Order;
 use std::alloc::Global;
 use std::test::Fail;
 
-/// Bytes that hold no item within the depth, and the place and cause of the first fault.
-const FAULTS: [(&[u8], u8, usize, u8); 52] = [
+/// Bytes that hold no item within the depth, keys in the bytewise order, and the place and cause of the first fault.
+const FAULTS: [(&[u8], u8, usize, u8); 54] = [
     (&[], 0, 0, 1),
     (&[0x18], 0, 0, 1),
     (&[0x19, 0x03], 0, 0, 1),
@@ -43,12 +44,15 @@ const FAULTS: [(&[u8], u8, usize, u8); 52] = [
     (&[0x62, 0xc3, 0x28], 0, 0, 7),
     (&[0x62, 0xc0, 0x80], 0, 0, 7),
     (&[0x63, 0xed, 0xa0, 0x80], 0, 0, 7),
+    (&[0x61, 0xff], 0, 0, 7),
     (&[0x64, 0xf4, 0x90, 0x80, 0x80], 0, 0, 7),
     (&[0xa2, 0x02, 0x00, 0x01, 0x00], 1, 3, 8),
     (&[0xa2, 0x01, 0x00, 0x01, 0x00], 1, 3, 8),
     (&[0xa2, 0x61, 0x7a, 0x00, 0x20, 0x00], 1, 4, 8),
     (&[0x81, 0xa2, 0x20, 0x00, 0x18, 0x64, 0x00], 2, 4, 8),
     (&[0xa2, 0x80, 0x00, 0x62, 0xff, 0xff, 0x00], 2, 3, 7),
+    // The second key is below the first too.
+    (&[0xa2, 0x62, 0x61, 0x61, 0x00, 0x61, 0xff, 0x00], 1, 5, 7),
     (&[0x80], 0, 0, 9),
     (&[0xa0], 0, 0, 9),
     (&[0xc0, 0x00], 0, 0, 9),
@@ -91,7 +95,7 @@ const FAULTS: [(&[u8], u8, usize, u8); 52] = [
 fn the_first_fault_is_named(rt: HostRuntime) -> Result<(), Fail> {
     for (bytes, depth, place, cause) in FAULTS.iter() {
         assert!(rt; *depth <= 64);
-        match read_item(rt.alloc(), bytes, 0, *depth) {
+        match read_item(rt.alloc(), Order::Bytewise, bytes, 0, *depth) {
             Ok(_) => assert!(rt; false, "read {place} {cause}"),
             Err(fault) => {
                 assert_eq!(rt;
@@ -147,19 +151,80 @@ const ENCODINGS: [(&[u8], u8); 24] = [
 fn an_encoding_is_read_measured_and_written(rt: HostRuntime) -> Result<(), Fail> {
     for (bytes, depth) in ENCODINGS.iter() {
         assert!(rt; *depth <= 64);
-        match read_item(rt.alloc(), bytes, 0, *depth) {
+        match read_item(rt.alloc(), Order::Bytewise, bytes, 0, *depth) {
             Err(fault) => assert!(rt; false, "{fault}"),
             Ok((item, end)) => {
                 assert_eq!(rt; end, bytes.len());
-                assert_eq!(rt; is_valid(&item, *depth), true);
-                assert_eq!(rt; is_valid(&item, 0), *depth == 0);
-                assert_eq!(rt; length_of(&item), bytes.len() as u64);
+                assert_eq!(rt; is_valid(Order::Bytewise, &item, *depth), true);
+                assert_eq!(rt; is_valid(Order::Bytewise, &item, 0), *depth == 0);
+                assert_eq!(rt; length_of(Order::Bytewise, &item), bytes.len() as u64);
                 let mut wide = [0xee; 30];
-                assert_eq!(rt; write_item(&item, &mut wide, 1), Ok(1 + bytes.len()));
+                assert_eq!(rt;
+                    write_item(Order::Bytewise, &item, &mut wide, 1),
+                    Ok(1 + bytes.len())
+                );
                 assert!(rt; wide[1..].starts_with(bytes) && wide[0] == 0xee && wide[29] == 0xee);
                 let mut narrow = [0xee; 30];
-                assert_eq!(rt; write_item(&item, &mut narrow, 30), Err(NoRoom));
+                assert_eq!(rt;
+                    write_item(Order::Bytewise, &item, &mut narrow, 30),
+                    Err(NoRoom)
+                );
                 assert_eq!(rt; narrow, [0xee; 30]);
+            }
+        }
+    }
+    Ok(())
+}
+
+/// An order, another one, a map whose keys ascend in the first alone, and the place of the first key that does not ascend in the other.
+/// The keys are those of RFC 8949, sections 4.2.1 and 4.2.3, and the map nests 2 deep.
+const ORDERED: [(Order, Order, &[u8], usize); 2] = [
+    // 10, 100, -1, "z", "aa", [100], [-1] and false.
+    (
+        Order::Bytewise,
+        Order::LengthFirst,
+        &[
+            0xa8, 0x0a, 0x00, 0x18, 0x64, 0x00, 0x20, 0x00, 0x61, 0x7a, 0x00, 0x62, 0x61, 0x61,
+            0x00, 0x81, 0x18, 0x64, 0x00, 0x81, 0x20, 0x00, 0xf4, 0x00,
+        ],
+        6,
+    ),
+    // 10, -1, false, 100, "z", [-1], "aa" and [100].
+    (
+        Order::LengthFirst,
+        Order::Bytewise,
+        &[
+            0xa8, 0x0a, 0x00, 0x20, 0x00, 0xf4, 0x00, 0x18, 0x64, 0x00, 0x61, 0x7a, 0x00, 0x81,
+            0x20, 0x00, 0x62, 0x61, 0x61, 0x00, 0x81, 0x18, 0x64, 0x00,
+        ],
+        7,
+    ),
+];
+
+#[test]
+fn keys_ascend_in_the_order_that_is_asked(rt: HostRuntime) -> Result<(), Fail> {
+    for (order, other, bytes, place) in ORDERED.iter() {
+        match read_item(rt.alloc(), *other, bytes, 0, 2) {
+            Ok(_) => assert!(rt; false, "read, in the other order"),
+            Err(fault) => assert_eq!(rt;
+                fault,
+                ItemFault::At {
+                    place: *place,
+                    cause: Cause::KeyOrder.number()
+                }
+            ),
+        }
+        match read_item(rt.alloc(), *order, bytes, 0, 2) {
+            Err(fault) => assert!(rt; false, "{fault}"),
+            Ok((item, end)) => {
+                assert_eq!(rt; end, bytes.len());
+                assert!(rt; is_valid(*order, &item, 2) && !is_valid(*order, &item, 1));
+                assert!(rt; !is_valid(*other, &item, 2));
+                assert_eq!(rt; length_of(*order, &item), bytes.len() as u64);
+                assert_eq!(rt; length_of(*other, &item), bytes.len() as u64);
+                let mut into = [0xee; 24];
+                assert_eq!(rt; write_item(*order, &item, &mut into, 0), Ok(24));
+                assert!(rt; into.starts_with(bytes));
             }
         }
     }
@@ -170,9 +235,9 @@ fn an_encoding_is_read_measured_and_written(rt: HostRuntime) -> Result<(), Fail>
 fn items_nest_sixty_four_deep_and_no_deeper(rt: HostRuntime) -> Result<(), Fail> {
     let mut nested = [0x81; 65];
     nested[64] = 0x80;
-    let deep = read_item(rt.alloc(), &nested, 1, 64);
+    let deep = read_item(rt.alloc(), Order::Bytewise, &nested, 1, 64);
     assert!(rt; deep.is_ok());
-    match read_item(rt.alloc(), &nested, 0, 64) {
+    match read_item(rt.alloc(), Order::Bytewise, &nested, 0, 64) {
         Ok(_) => assert!(rt; false),
         Err(fault) => assert_eq!(rt;
             fault,
@@ -199,26 +264,40 @@ fn map_of(alloc: Global, keys: &[u64]) -> Result<Item, OutOfMemory> {
 
 #[test]
 fn what_has_no_encoding_is_not_valid(rt: HostRuntime) -> Result<(), Fail> {
-    assert!(rt; is_valid(&map_of(rt.alloc(), &[1, 23, 24, 1000])?, 1));
-    assert!(rt; !is_valid(&map_of(rt.alloc(), &[1, 1])?, 1));
-    assert!(rt; !is_valid(&map_of(rt.alloc(), &[24, 23])?, 1));
-    assert!(rt; !is_valid(&map_of(rt.alloc(), &[1])?, 0));
+    assert!(rt; is_valid(Order::Bytewise, &map_of(rt.alloc(), &[1, 23, 24, 1000])?, 1));
+    assert!(rt; !is_valid(Order::Bytewise, &map_of(rt.alloc(), &[1, 1])?, 1));
+    assert!(rt; !is_valid(Order::Bytewise, &map_of(rt.alloc(), &[24, 23])?, 1));
+    assert!(rt; !is_valid(Order::Bytewise, &map_of(rt.alloc(), &[1])?, 0));
     assert!(rt;
         is_valid(
+            Order::Bytewise,
             &Item::Text(ByteList::from_slice(rt.alloc(), &[0xc3, 0xbc])?),
             0
         )
     );
     assert!(rt;
         !is_valid(
+            Order::Bytewise,
             &Item::Text(ByteList::from_slice(rt.alloc(), &[0xed, 0xa0, 0x80])?),
             0
         )
     );
-    assert!(rt; is_valid(&Item::Bytes(ByteList::from_slice(rt.alloc(), &[0xff])?), 0));
-    assert!(rt; is_valid(&Item::Simple(23), 0) && is_valid(&Item::Simple(32), 0));
-    assert!(rt; !is_valid(&Item::Simple(24), 0) && !is_valid(&Item::Simple(31), 0));
+    assert!(rt;
+        is_valid(
+            Order::Bytewise,
+            &Item::Bytes(ByteList::from_slice(rt.alloc(), &[0xff])?),
+            0
+        )
+    );
+    assert!(rt;
+        is_valid(Order::Bytewise, &Item::Simple(23), 0)
+            && is_valid(Order::Bytewise, &Item::Simple(32), 0)
+    );
+    assert!(rt;
+        !is_valid(Order::Bytewise, &Item::Simple(24), 0)
+            && !is_valid(Order::Bytewise, &Item::Simple(31), 0)
+    );
     let tagged = Item::Tag(1, Boxed::new(rt.alloc(), Item::Simple(24))?);
-    assert!(rt; !is_valid(&tagged, 9));
+    assert!(rt; !is_valid(Order::Bytewise, &tagged, 9));
     Ok(())
 }

@@ -1,4 +1,4 @@
-//! Sample rows of lists, heads, keys and items.
+//! Sample rows of lists, heads, keys, sums and items.
 #![tactic(auto)]
 
 #[cfg(test)]
@@ -9,3 +9,5 @@ mod items;
 mod keys;
 #[cfg(test)]
 mod lists;
+#[cfg(test)]
+mod sums;

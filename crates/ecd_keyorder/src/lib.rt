@@ -1,4 +1,4 @@
-//! The order of the keys of a map in deterministic CBOR: RFC 8949, section 4.2.1.
+//! The orders of the keys of a map in deterministic CBOR: RFC 8949, sections 4.2.1 and 4.2.3.
 #![tactic(auto)]
 
 ghost use Rattle.std.specs.Prelude.{◌≡◌};
@@ -13,6 +13,9 @@ use std::cmp::Ordering;
 pub enum Order {
     /// The bytewise lexicographic order (RFC 8949, section 4.2.1): an encoding that begins another comes before it.
     Bytewise,
+    /// The length-first order (RFC 8949, section 4.2.3): a shorter encoding comes first, and of two of one length the first in
+    /// the bytewise order.
+    LengthFirst,
 }
 
 /// Which of two encodings comes first in the order. It takes no memory.
@@ -21,5 +24,6 @@ pub fn compare(order: Order, a: &[u8], b: &[u8]) -> Ordering
 {
     match order {
         Order::Bytewise => a.cmp(&b),
+        Order::LengthFirst => a.len().cmp(&b.len()).then(a.cmp(&b)),
     }
 }

@@ -9,4 +9,4 @@ mod memory;
 
 pub use boxed::Boxed;
 pub use list::{ByteList, List};
-pub use memory::OutOfMemory;
+pub use memory::{MOST_LEVELS, OutOfMemory};

@@ -6,6 +6,10 @@ use thiserror::Error;
 #[error("out of memory")]
 pub struct OutOfMemory;
 
+/// The most levels of a text or a tree of others that are walked by recursion where nothing else bounds them: behind them
+/// the stack counts as used up, and the answer is `OutOfMemory`.
+pub const MOST_LEVELS: u32 = 400;
+
 impl From<AllocError> for OutOfMemory {
     fn from(_refused: AllocError) -> OutOfMemory {
         OutOfMemory

@@ -1,12 +1,12 @@
 mod Positions
 mod Naming
 mod Repeats
-mod Walking
+pub mod Walking
 mod Scoping
 mod Linking
-mod Nodes
-mod Graphs
-mod Components
+pub mod Nodes
+pub mod Graphs
+pub mod Components
 mod Duplicates
 mod Judging
 mod Preludes

@@ -16,7 +16,7 @@ use Rattle.ecd_first.specs.Firsts.{offset, Sees, AnyBelow}
 use Rattle.ecd_names.specs.Laws.{HasOneFirst, NoneIsFirst, RankedBreaksNoThird, PreludeIsKept}
 use Rattle.ecd_names.specs.Names.{BreaksAt, HasFewParameters}
 use Rattle.ecd_names.specs.Scopes.{IsScope, AreScopes}
-use Rattle.ecd_first.proofs.Seeing.{sees_same, first_is, none_is}
+use Rattle.ecd_first.proofs.Seeing.{offsets, sees_same, first_is, none_is}
 use Rattle.ecd_names.proofs.Naming.{same-name}
 use Rattle.ecd_names.proofs.Judging.{uses_it}
 use Rattle.ecd_names.proofs.Walking.{some_same}
@@ -55,7 +55,7 @@ none-first text place number none f = none place number f.broken
 
 module _ (text : List Rule) (broken : Option (Broken ℕ)) (sees : Sees offset None broken (Breaks text)) where
   pub first-broken : (b : Broken ℕ) → broken ≡ Some b → IsFirst text b.place b.rule
-  first-broken b e = let both = first_is offset broken (Breaks text) b sees e in record { broken = both.0; first = both.1 }
+  first-broken b e = let both = first_is offset broken (Breaks text) b sees e in record { broken = both.0; first = λ place number h. offsets b.place b.rule place number (both.1 place number h) }
 
   pub none-broken : broken ≡ None → BreaksNone text
   none-broken e = none_is offset broken (Breaks text) sees e

@@ -94,7 +94,7 @@ impl Names {
 ///
 /// `At` with the first broken rule: the least place, and there the least number. `OutOfMemory` where memory is wanting. These count as that: more than
 /// 2^32 - 1 rules of the prelude and the text together, more than 2^32 - 1 parameters or sites of one rule, and choices of a type inside each other in more
-/// than 1,000 levels.
+/// than `MOST_LEVELS` levels.
 pub fn resolve(alloc: Global, tree: Tree) -> Result<Names, NameFault>
     // Names that are taken are those of the tree.
     ensures same { IfOk result (λ names. names ≡ tree.rules) }

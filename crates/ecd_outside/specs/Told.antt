@@ -31,6 +31,10 @@ IsTaken (Some contents) name taken left = IsSome left × (contents name ≡ prep
 abbrev pub TakesAtMost : Told → List ℕ → Option (List ℕ) → ℕ → Type 0
 TakesAtMost told name left most = (taken : List ℕ) × IsTaken told name taken left × (length taken ≤ most)
 
+-- the same, and exactly so many bytes were taken
+abbrev pub TakesExactly : Told → List ℕ → Option (List ℕ) → ℕ → Type 0
+TakesExactly told name left count = (taken : List ℕ) × IsTaken told name taken left × (length taken ≡ count)
+
 -- a read gave so many bytes: none exactly at the end
 abbrev pub IsNoneAtEnd : Option (List ℕ) → ℕ → Type 0
 IsNoneAtEnd None count = ⊤

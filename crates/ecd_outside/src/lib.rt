@@ -20,6 +20,3 @@ pub use stored::{CallList, FileList, StoredFile};
 pub use system::{StdFiles, StdSink};
 pub use traits::{Failed, Files, Sink};
 pub use whole::{ReadRefusal, put_all, read_file};
-
-#[cfg(test)]
-mod tests;

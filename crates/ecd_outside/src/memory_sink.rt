@@ -1,7 +1,6 @@
 //! A sink that is held in memory.
 
-ghost use Rattle.std.specs.Prelude.{◌≡◌, ◌<◌, ◌≤◌, ◌++◌, length, take, [], Ok, IsOk, IsErr, OnErr, IfOk, Some};
-ghost use Rattle.std.specs.Io.KnownBytes.{append_known};
+ghost use Rattle.std.specs.Prelude.{◌≡◌, ◌<◌, ◌≤◌, ◌++◌, length, take, [], Ok, IsErr, OnErr, IfOk, Some};
 ghost use Rattle.ecd_outside.specs.Causes.{Rose};
 ghost use Rattle.ecd_outside.specs.Memory.{put_count, IsToFail, counted, failed};
 
@@ -21,7 +20,7 @@ pub struct MemorySink {
 }
 
 impl Model for MemorySink {
-    ghost use Rattle.std.specs.Prelude.{◌≤◌, vec_len, vec_capacity};
+    ghost use Rattle.std.specs.Prelude.{◌≤◌, vec_capacity};
     ghost use Rattle.ecd_outside.specs.Memory.{SinkShown};
 
     ghost Value = { SinkShown };

@@ -1,6 +1,6 @@
 //! The traits of the outside.
 
-ghost use Rattle.std.specs.Prelude.{◌≡◌, ◌<◌, ◌≤◌, ◌↔◌, ℕ, List, [], Bool, true, false, length, take, Option, None, Some, OnOk, OnErr, IfOk, IsErr};
+ghost use Rattle.std.specs.Prelude.{◌≡◌, ◌<◌, ◌≤◌, ℕ, List, [], Bool, true, false, length, take, Option, OnOk, OnErr, IfOk, IsErr};
 ghost use Rattle.std.specs.Io.KnownBytes.{prepend_known, append_known};
 ghost use Rattle.ecd_outside.specs.Causes.{Rose};
 ghost use Rattle.ecd_outside.specs.Told.{Told, IsMissing, IsTaken, IsNoneAtEnd, MayFail};

@@ -1,9 +1,9 @@
 //! Reading a file whole, up to a limit, and writing bytes whole.
 
-ghost use Rattle.std.specs.Prelude.{◌≡◌, ◌<◌, ◌≤◌, ◌+◌, ℕ, List, ◌++◌, length, OnOk, OnErr, IfOk, IsErrOf, true, vec_len};
+ghost use Rattle.std.specs.Prelude.{◌≡◌, ◌≤◌, ◌+◌, ℕ, List, length, OnOk, OnErr, IfOk, IsErrOf, true, vec_len};
 ghost use Rattle.std.specs.Io.KnownBytes.{append_known};
 ghost use Rattle.ecd_outside.specs.Causes.{Rose};
-ghost use Rattle.ecd_outside.specs.Told.{IsContents, IsLonger, IsTaken, TakesAtMost, MayFail, AppendsFront};
+ghost use Rattle.ecd_outside.specs.Told.{IsContents, IsLonger, IsTaken, TakesAtMost, TakesExactly, MayFail, AppendsFront};
 
 use crate::traits::{Failed, Files, Sink};
 use ecd_list::ByteList;
@@ -65,7 +65,8 @@ fn read_more<F: Files>(
 /// # Errors
 ///
 /// `Fault` where the file could not be begun or read: only where the count of faults rose, or stands at its last
-/// value, or contents are told and no file has the name. `TooLarge` where it has more bytes than the limit.
+/// value, or contents are told and no file has the name. `TooLarge` where it has more bytes than the limit; then it is
+/// begun, and exactly one byte more than the limit is taken.
 pub fn read_file<F: Files>(
     alloc: Global,
     files: &mut F,
@@ -77,6 +78,7 @@ pub fn read_file<F: Files>(
     ensures fault { IsErrOf result ReadRefusal.Fault
         → MayFail (F.told files.old) name.now (F.faults files.old) (F.faults files.new) }
     ensures large { IsErrOf result ReadRefusal.TooLarge → IsLonger (F.told files.old) name.now limit }
+    ensures stops { IsErrOf result ReadRefusal.TooLarge → (F.begun files.new ≡ true) × TakesExactly (F.told files.old) name.now (F.left files.new) (limit + 1) }
     ensures most { F.begun files.new ≡ true → TakesAtMost (F.told files.old) name.now (F.left files.new) (limit + 1) }
     ensures told { F.told files.new ≡ F.told files.old }
     ensures later { F.faults files.old ≤ F.faults files.new }

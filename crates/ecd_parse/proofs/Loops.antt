@@ -9,39 +9,16 @@ use Rattle.ecd_syntax.specs.declared.tree.Type1.{Type1}
 use Rattle.ecd_syntax.specs.declared.tree.WayTree.{WayTree}
 use Rattle.ecd_syntax.specs.Marks.{Mark, place, sign_of}
 use Rattle.ecd_syntax.specs.Reading.{Taken, Halted, Stuck, Reader, ◌>>=◌, taken, peek, choose, on, token, begins, behind, many, each, goes_on, entry_in_way, ways_at, way_of}
+use Rattle.ecd_reading.proofs.Loops.{with_front, halted}
 use Rattle.ecd_parse.specs.Reads.{Fails, passed}
 use Rattle.ecd_parse.specs.declared.cursor.Halt.{Halt}
 use Rattle.ecd_parse.specs.declared.cursor.Halt.TheVariants as halts
 
--- what was read before, and what is still read
-abbrev pub with_front : {A : Type 0} → List A → Result (Taken (List A)) Halted → Result (Taken (List A)) Halted
-with_front front read = read >>= λ x. taken (front ++ x.value) x.rest
-
-regroup : {A : Type 0} (front : List A) (x : A) (read : Result (Taken (List A)) Halted) → with_front front (read >>= λ xs. taken (x ∷ xs.value) xs.rest) ≡ with_front (front ++ x ∷ []) read
-regroup front x (Ok xs) = ap (λ (ys : List _). taken ys xs.rest) (sym (append_assoc front (x ∷ []) xs.value))
-regroup front x (Err z) = refl
-
-module _ {A : Type 0} (test : List Mark → Bool) (one : Reader A) where
-  pub goes : (n m : ℕ) (front : List A) (ms rest : List Mark) (x : A) (total : Result (Taken (List A)) Halted) → n ≡ suc m → test ms ≡ true → one ms ≡ taken x rest
-      → with_front front (many test one n ms) ≡ total → with_front (front ++ x ∷ []) (many test one m rest) ≡ total
-  unfolding many
-  goes n m front ms rest x total e yes_ first so_far =
-      let one_more : with_front front (many test one n ms) ≡ with_front (front ++ x ∷ []) (many test one m rest) = rw (e, yes_, first) (regroup front x (many test one m rest)) in
-      sym one_more ∙ so_far
-
-  pub ends : (all : List Mark) (e : Halt) (n m : ℕ) (front : List A) (ms : List Mark) (total : Result (Taken (List A)) Halted) → n ≡ suc m → test ms ≡ true → Fails all e (one ms)
-      → with_front front (many test one n ms) ≡ total → Fails all e total
-  unfolding many
-  ends all halts.OutOfMemory n m front ms total i yes_ fails so_far = tt
-  ends all (halts.Unexpected at) n m front ms total i yes_ fails so_far =
-      let halted : with_front front (many test one n ms) ≡ Err (Stuck (drop at all)) = rw (i, yes_, fails) refl in
-      sym so_far ∙ halted
-
-  pub done : (n m : ℕ) (front : List A) (ms : List Mark) (total : Result (Taken (List A)) Halted) → n ≡ suc m → test ms ≡ false → with_front front (many test one n ms) ≡ total → total ≡ taken front ms
-  unfolding many
-  done n m front ms total e not_ so_far =
-      let last : with_front front (many test one n ms) ≡ taken front ms = rw (e, not_) (ap (λ (xs : List A). taken xs ms) (append-nil front)) in
-      sym so_far ∙ last
+-- what halts one part halts all
+pub ends : {A : Type 0} (test : List Mark → Bool) (one : Reader A) (all : List Mark) (e : Halt) (n m : ℕ) (front : List A) (ms : List Mark) (total : Result (Taken (List A)) Halted) → n ≡ suc m → test ms ≡ true → Fails all e (one ms)
+    → with_front front (many test one (taken []) n ms) ≡ total → Fails all e total
+ends test one all halts.OutOfMemory n m front ms total i yes_ fails so_far = tt
+ends test one all (halts.Unexpected at) n m front ms total i yes_ fails so_far = halted (taken []) test one (Stuck (drop at all)) n m front ms total i yes_ fails so_far
 
 -- ---- a sign before each
 

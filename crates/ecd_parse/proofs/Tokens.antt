@@ -8,6 +8,7 @@ use Rattle.ecd_lex.specs.declared.token.Token.{Token}
 use Rattle.ecd_syntax.specs.Marks.{Mark, marks, marks_behind, mark_behind, six_after, is_six, sign_of}
 use Rattle.ecd_lex.specs.declared.token.Sign.TheVariants as signs
 use Rattle.ecd_syntax.specs.Reading.{peek, colon_behind, is_more}
+use Rattle.ecd_reading.proofs.Loops.{more_at}
 use Rattle.ecd_parse.specs.Reads.{passed}
 
 mark_at : (six : Bool) (at : ℕ) (tokens : List Token) (t : Token) → slice_get tokens at ≡ Some t → drop at (marks_behind six tokens) ≡ mark_behind (six_after six (take at tokens)) t ∷ drop (suc at) (marks_behind six tokens)
@@ -66,11 +67,6 @@ is_passed ms (Some n) = refl
 pub colon_here : (ms : List Mark) (at : ℕ) (o : Option ℕ) → passed ms o ≡ peek (sign_of signs.Colon) (drop (at + 1) ms) → is_some o ≡ colon_behind (drop at ms)
 colon_here ms at o h = sym (is_passed ms o) ∙ ap is_some h ∙ ap (λ (rest : List Mark). is_some (peek (sign_of signs.Colon) rest)) (sym (drop_one at ms))
 
-more_of : (n : ℕ) (ms : List Mark) → n < length ms → is_more (drop n ms) ≡ true
-more_of n [] lt = absurd (omega arith)
-more_of zero (m ∷ ms) lt = refl
-more_of (suc n) (m ∷ ms) lt = more_of n ms (omega arith)
-
 none_of : (n : ℕ) (ms : List Mark) → length ms ≤ n → drop n ms ≡ []
 none_of zero [] le = refl
 none_of (suc n) [] le = refl
@@ -79,7 +75,7 @@ none_of (suc n) (m ∷ ms) le = none_of n ms (omega arith)
 
 -- whether there is a mark from a place on
 pub more_here : (tokens : List Token) (at : ℕ) → at < length tokens → is_more (drop at (marks tokens)) ≡ true
-more_here tokens at lt = more_of at (marks tokens) (omega (arith, length_marks tokens))
+more_here tokens at lt = more_at at (marks tokens) (omega (arith, length_marks tokens))
 
 pub rest_none : (tokens : List Token) (at : ℕ) → length tokens ≤ at → drop at (marks tokens) ≡ []
 rest_none tokens at le = none_of at (marks tokens) (omega (arith, length_marks tokens))

@@ -26,7 +26,7 @@ fn read_choice(
     alloc: Global,
     tokens: &[Token],
     at: usize,
-    levels: u16,
+    levels: u32,
 ) -> Result<(Type1, usize), Halt>
     requires { at ≤ length tokens.now }
     ensures gives { Gives (marks tokens.now) result (choice_at levels (drop at (marks tokens.now))) }
@@ -66,7 +66,7 @@ fn read_operand(
     alloc: Global,
     tokens: &[Token],
     at: usize,
-    levels: u16,
+    levels: u32,
 ) -> Result<(Type2, usize), Halt>
     requires { at ≤ length tokens.now }
     ensures gives { Gives (marks tokens.now) result (operand_at (choice_at levels) (drop at (marks tokens.now))) }
@@ -102,7 +102,7 @@ fn read_args(
     alloc: Global,
     tokens: &[Token],
     at: usize,
-    levels: u16,
+    levels: u32,
 ) -> Result<(Type1List, usize), Halt>
     requires { at ≤ length tokens.now }
     ensures gives { Gives (marks tokens.now) result (arguments (choice_at levels) (drop at (marks tokens.now))) }
@@ -121,7 +121,7 @@ fn read_more(
     alloc: Global,
     tokens: &[Token],
     at: usize,
-    levels: u16,
+    levels: u32,
     sign: Sign,
     first: Type1,
 ) -> Result<(Type1List, usize), Halt>
@@ -148,7 +148,7 @@ pub fn read_type(
     alloc: Global,
     tokens: &[Token],
     at: usize,
-    levels: u16,
+    levels: u32,
 ) -> Result<(Alts, usize), Halt>
     requires { at ≤ length tokens.now }
     ensures gives { Gives (marks tokens.now) result (type_at (choice_at levels) (drop at (marks tokens.now))) }
@@ -167,7 +167,7 @@ fn read_body(
     alloc: Global,
     tokens: &[Token],
     at: usize,
-    levels: u16,
+    levels: u32,
 ) -> Result<((Key, Alts), usize), Halt>
     requires { at ≤ length tokens.now }
     ensures gives { Gives (marks tokens.now) result (body_at (choice_at levels) (drop at (marks tokens.now))) }
@@ -195,7 +195,7 @@ pub fn read_entry(
     alloc: Global,
     tokens: &[Token],
     at: usize,
-    levels: u16,
+    levels: u32,
 ) -> Result<(Entry, usize), Halt>
     requires { at ≤ length tokens.now }
     ensures gives { Gives (marks tokens.now) result (entry_at (choice_at levels) (drop at (marks tokens.now))) }
@@ -220,7 +220,7 @@ fn read_entries(
     alloc: Global,
     tokens: &[Token],
     at: usize,
-    levels: u16,
+    levels: u32,
     close: Sign,
 ) -> Result<(EntryList, usize), Halt>
     requires { at ≤ length tokens.now }
@@ -244,7 +244,7 @@ fn read_group(
     alloc: Global,
     tokens: &[Token],
     at: usize,
-    levels: u16,
+    levels: u32,
     close: Sign,
 ) -> Result<(GroupTree, usize), Halt>
     requires { at ≤ length tokens.now }

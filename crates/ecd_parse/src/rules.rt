@@ -59,7 +59,7 @@ fn read_assigned(
     alloc: Global,
     tokens: &[Token],
     at: usize,
-    levels: u16,
+    levels: u32,
     assign: Assign,
 ) -> Result<(Entry, usize), Halt>
     requires { at ≤ length tokens.now }
@@ -97,7 +97,7 @@ fn expect_assign(tokens: &[Token], at: usize) -> Result<(Assign, usize), Halt>
 
 /// A rule.
 #[tactic(auto, unfolding(ecd_syntax::specs::Reading::rule_at))]
-fn read_rule(alloc: Global, tokens: &[Token], at: usize, levels: u16) -> Result<(Rule, usize), Halt>
+fn read_rule(alloc: Global, tokens: &[Token], at: usize, levels: u32) -> Result<(Rule, usize), Halt>
     requires { at ≤ length tokens.now }
     ensures gives { Gives (marks tokens.now) result (rule_at (choice_at levels) (drop at (marks tokens.now))) }
     ensures within { IfOk result (λ x. x.1 ≤ length tokens.now) }
@@ -123,7 +123,7 @@ fn read_more_rules(
     alloc: Global,
     tokens: &[Token],
     at: usize,
-    levels: u16,
+    levels: u32,
     first: Rule,
 ) -> Result<RuleList, Halt>
     requires { at ≤ length tokens.now }
@@ -142,7 +142,7 @@ fn read_more_rules(
 
 /// All rules: one or more, up to the end.
 #[tactic(auto, unfolding(ecd_syntax::specs::Reading::rules_at))]
-pub fn read_rules(alloc: Global, tokens: &[Token], levels: u16) -> Result<RuleList, Halt>
+pub fn read_rules(alloc: Global, tokens: &[Token], levels: u32) -> Result<RuleList, Halt>
     ensures { GivesAll (marks tokens.now) result (rules_at (choice_at levels) (marks tokens.now)) }
 {
     let (first, behind) = read_rule(alloc, tokens, 0, levels)?;

@@ -11,12 +11,9 @@ use crate::cursor::Halt;
 use crate::fault::ParseFault;
 use crate::rules::read_rules;
 use ecd_lex::{Token, TokenList};
+use ecd_list::MOST_LEVELS;
 use ecd_syntax::Tree;
 use std::alloc::Global;
-
-/// How many choices of a type may stand inside each other before there is want of memory: brackets and generic
-/// arguments count.
-const LEVELS: u16 = 1000;
 
 /// The place of the token of that number, or the end of the text.
 fn place_or(tokens: &[Token], at: usize, end: u32) -> u32
@@ -35,7 +32,7 @@ fn fault_by(alloc: Global, tokens: &[Token], bracket: usize, end: u32) -> ParseF
     requires opens { open_after (take (bracket + 1) tokens.now) 0 ≡ 49 }
     ensures { Answers tokens.now end (Err result) }
 {
-    match read_rules(alloc, &tokens[..bracket + 1], LEVELS) {
+    match read_rules(alloc, &tokens[..bracket + 1], MOST_LEVELS) {
         Ok(_) => too_nested(tokens, bracket),
         Err(Halt::Unexpected(at)) => {
             if at <= bracket {
@@ -65,7 +62,7 @@ fn answer(alloc: Global, tokens: &[Token], end: u32) -> Result<Tree, ParseFault>
     if let Some(bracket) = one_too_many(tokens) {
         return Err(fault_by(alloc, tokens, bracket, end));
     }
-    match read_rules(alloc, tokens, LEVELS) {
+    match read_rules(alloc, tokens, MOST_LEVELS) {
         Ok(rules) => Ok(Tree { rules }),
         Err(Halt::Unexpected(at)) => Err(ParseFault::Unexpected {
             place: place_or(tokens, at, end),
@@ -80,7 +77,7 @@ fn answer(alloc: Global, tokens: &[Token], end: u32) -> Result<Tree, ParseFault>
 ///
 /// `Unexpected` at the first token that no schema has behind those before it, or at `length` where the text ends too
 /// early; `TooNested` at the bracket that opens the 49th open bracket, where there is no such token at or before it.
-/// `OutOfMemory` also where choices of a type stand more than 1,000 deep inside each other.
+/// `OutOfMemory` also where choices of a type stand more than `MOST_LEVELS` deep inside each other.
 pub fn parse(alloc: Global, tokens: &TokenList, length: u32) -> Result<Tree, ParseFault>
     // The tree spells the tokens, and that tree is answered.
     ensures found { IfOk result (λ tree. Spells tree tokens.now × IsWithin tokens.now) }

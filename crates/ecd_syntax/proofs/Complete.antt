@@ -29,7 +29,8 @@ use Rattle.ecd_syntax.specs.declared.tree.WayTree.{WayTree, out-WayTree, roll-ou
 use Rattle.ecd_syntax.specs.Marks.{Mark, place, name_of, literal_of, occur_of, hash_of, operator_of, assign_of, sign_of, tag_of, number_of}
 use Rattle.ecd_syntax.specs.Grammar.{One, OneSign, Then, At, Each, Listed, Angled, TypeSpelled, OccurSpelled, CutSpelled, KeySpelled, AKey, AForm, EntrySpelled, MaybeComma, EntriesSpelled, WaysSpelled, GroupSpelled, NamedSpelled, FormSpelled, OperandSpelled, OperationSpelled, ChoiceSpelled, ChoiceWithin, TypeAlone, BodySpelled, RuleSpelled, RulesSpelled}
 use Rattle.ecd_syntax.specs.Reading.{Reader, taken, stuck, on, token, begins, each, more_listed, listed, angled, made, type_at, alts_of, occur_at, colon_behind, body_behind, behind_choice, open_body, colon_body, keyed_body, body_at, entry_at, skip_comma, entry_in_way, goes_on, ways_at, group_at, name_and_args, six_major, tag_at, behind_hash, bracket_at, behind_ampersand, prefixed_at, form_at, operand_at, operation_at, choice_layer, choice_at, assigned, rule_at, is_more, rules_at, operand_of, operation_of, choice_of, way_of, group_of, entry_of, rule_of}
-use Rattle.ecd_syntax.proofs.Readers.{after, place_front}
+use Rattle.ecd_reading.specs.Reading.{after}
+use Rattle.ecd_syntax.proofs.Readers.{place_front}
 use Rattle.ecd_syntax.proofs.Classes.{lead, Told, name_class, literal_class, occur_class, hash_class, operator_class, assign_class, sign_class_of, tag_class, on_no}
 use Rattle.ecd_syntax.proofs.Follows.{AfterOperand, AfterChoice, AfterType, AfterEntry, AfterInWay, Begins, after_is, made_is, token_is, one_lead, on_one, then_is, lead_some, each_fol, each_is, begins_yes, begins_no, more_fol, more_listed_is, listed_is, told_less, told_comma, angled_is, told_slash, told_caret, told_arrow, told_colon}
 

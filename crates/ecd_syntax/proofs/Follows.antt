@@ -6,7 +6,7 @@ use Rattle.ecd_lex.specs.declared.token.Sign.TheVariants as signs
 use Rattle.ecd_syntax.specs.Marks.{Mark, place, sign_of, number_of}
 use Rattle.ecd_syntax.specs.Grammar.{One, OneSign, Then, Each, Listed, Angled}
 use Rattle.ecd_syntax.specs.Reading.{Taken, Halted, Reader, ◌>>=◌, taken, stuck, on, token, begins, behind, many, each, more_listed, listed, angled, made}
-use Rattle.ecd_syntax.proofs.Readers.{after}
+use Rattle.ecd_reading.specs.Reading.{after}
 use Rattle.ecd_syntax.proofs.Classes.{lead, Classed, Told, sign_class_of, peek_none, on_no, on_yes}
 
 -- ---- what may stand behind a part
@@ -68,14 +68,14 @@ module _ {A : Type 0} (G : A → List Mark → Type 0) (test : List Mark → Boo
 
   pub many_is : ((x : A) (a rest : List Mark) → G x a → Fol (lead rest) → one (a ++ rest) ≡ taken x rest)
       → ((x : A) (a rest : List Mark) → G x a → (test (a ++ rest) ≡ true) × Fol (lead (a ++ rest)))
-      → (xs : List A) (ms rest : List Mark) (n : ℕ) → Each G xs ms → Fol (lead rest) → test rest ≡ false → length xs < n → many test one n (ms ++ rest) ≡ taken xs rest
+      → (xs : List A) (ms rest : List Mark) (n : ℕ) → Each G xs ms → Fol (lead rest) → test rest ≡ false → length xs < n → many test one (taken []) n (ms ++ rest) ≡ taken xs rest
   unfolding many
   many_is reads begin xs ms rest zero h fol apart lt = absurd (omega arith)
   many_is reads begin [] ms rest (suc n) h fol apart lt = rw (h, apart) refl
   many_is reads begin (x ∷ xs) ms rest (suc n) h fol apart lt =
       let next : Fol (lead (h.back ++ rest)) = each_fol begin xs h.back rest h.second fol in
       let first : one (h.front ++ (h.back ++ rest)) ≡ taken x (h.back ++ rest) = reads x h.front (h.back ++ rest) h.first next in
-      let more : many test one n (h.back ++ rest) ≡ taken xs rest = many_is reads begin xs h.back rest n h.second fol apart (omega arith) in
+      let more : many test one (taken []) n (h.back ++ rest) ≡ taken xs rest = many_is reads begin xs h.back rest n h.second fol apart (omega arith) in
       rw (then_is (G x) (Each G xs) ms rest h, (begin x h.front (h.back ++ rest) h.first).0, first, more) refl
 
   pub each_count : ((x : A) (a rest : List Mark) → G x a → 0 < length a) → (xs : List A) (ms : List Mark) → Each G xs ms → length xs ≤ length ms

@@ -17,7 +17,7 @@ use Rattle.ecd_syntax.specs.declared.tree.Type1.{Type1}
 use Rattle.ecd_syntax.specs.declared.tree.WayTree.{WayTree}
 use Rattle.ecd_syntax.specs.Marks.{Mark, place, name_of, literal_of, hash_of, operator_of, assign_of, sign_of, tag_of}
 use Rattle.ecd_syntax.specs.Reading.{Taken, Halted, Deep, Reader, ◌>>=◌, taken, stuck, peek, choose, on, token, begins, behind, many, each, more_listed, listed, angled, made, type_at, alts_of, occur_at, colon_behind, body_behind, behind_choice, open_body, colon_body, keyed_body, body_at, entry_at, skip_comma, entry_in_way, goes_on, ways_at, group_at, name_and_args, six_major, tag_at, behind_hash, bracket_at, behind_ampersand, prefixed_at, form_at, operand_at, operation_at, choice_layer, choice_at, assigned, rule_at, is_more, rules_at, operand_of, operation_of, choice_of, way_of, group_of, entry_of, rule_of}
-use Rattle.ecd_syntax.proofs.Readers.{after}
+use Rattle.ecd_reading.specs.Reading.{after}
 
 abbrev deep : {A : Type 0} → Result (Taken A) Halted
 deep = Err Deep
@@ -55,13 +55,13 @@ if_grows {A} test p p' q q' g h = record { at = λ ms. at_test (test ms) ms }
 placed_grows : {A : Type 0} (p p' : ℕ → Reader A) → ((at : ℕ) → Grows (p at) (p' at)) → Grows (λ ms. p (place ms) ms) (λ ms. p' (place ms) ms)
 placed_grows p p' g = record { at = λ ms. (g (place ms)).at ms }
 
-many_grows : {A : Type 0} (test : List Mark → Bool) (p p' : Reader A) → Grows p p' → (n : ℕ) → Grows (many test p n) (many test p' n)
+many_grows : {A : Type 0} (test : List Mark → Bool) (p p' : Reader A) → Grows p p' → (n : ℕ) → Grows (many test p (taken []) n) (many test p' (taken []) n)
 unfolding many
 many_grows test p p' g zero = same (taken [])
 many_grows test p p' g (suc n) =
-    if_grows test (after p (λ x. after (many test p n) (λ xs. taken (x ∷ xs)))) (after p' (λ x. after (many test p' n) (λ xs. taken (x ∷ xs)))) (taken []) (taken [])
-    (after_grows p p' (λ x. after (many test p n) (λ xs. taken (x ∷ xs))) (λ x. after (many test p' n) (λ xs. taken (x ∷ xs))) g
-    (λ x. after_grows (many test p n) (many test p' n) (λ xs. taken (x ∷ xs)) (λ xs. taken (x ∷ xs)) (many_grows test p p' g n) (λ xs. same (taken (x ∷ xs)))))
+    if_grows test (after p (λ x. after (many test p (taken []) n) (λ xs. taken (x ∷ xs)))) (after p' (λ x. after (many test p' (taken []) n) (λ xs. taken (x ∷ xs)))) (taken []) (taken [])
+    (after_grows p p' (λ x. after (many test p (taken []) n) (λ xs. taken (x ∷ xs))) (λ x. after (many test p' (taken []) n) (λ xs. taken (x ∷ xs))) g
+    (λ x. after_grows (many test p (taken []) n) (many test p' (taken []) n) (λ xs. taken (x ∷ xs)) (λ xs. taken (x ∷ xs)) (many_grows test p p' g n) (λ xs. same (taken (x ∷ xs)))))
     (same (taken []))
 
 each_grows : {A : Type 0} (test : List Mark → Bool) (p p' : Reader A) → Grows p p' → Grows (each test p) (each test p')

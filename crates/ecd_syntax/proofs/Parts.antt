@@ -2,7 +2,6 @@
 use Rattle.std.proofs.Common.{◌≡◌, ℕ, zero, suc, ◌<◌, ◌≤◌, inl, inr, Bool, true, false, cond, List, [], ◌∷◌, ◌++◌, length, Option, Some, None, Result, Ok, Err, refl, ap, sym, ◌∙◌, subst, arith, append_assoc}
 use Rattle.std.proofs.lemmas.List.{length-append, append-nil}
 use Rattle.std.proofs.lemmas.Bool.{eq-eqb, eqb-true}
-use Rattle.std.specs.Prelude.{is_some}
 use Rattle.ecd_lex.specs.declared.token.Sign.{Sign}
 use Rattle.ecd_lex.specs.declared.token.Sign.TheVariants as signs
 use Rattle.ecd_lex.specs.declared.token.TokenKind.{TokenKind}
@@ -30,7 +29,9 @@ use Rattle.ecd_syntax.specs.declared.tree.Literal.{Literal}
 use Rattle.ecd_syntax.specs.Marks.{Mark, place, name_of, literal_of, occur_of, hash_of, operator_of, sign_of, tag_of, number_of, said}
 use Rattle.ecd_syntax.specs.Grammar.{One, OneSign, Then, At, Listed, Angled, TypeSpelled, OccurSpelled, CutSpelled, KeySpelled, EntrySpelled, MaybeComma, EntriesSpelled, WaysSpelled, GroupSpelled, NamedSpelled, FormSpelled, OperandSpelled, OperationSpelled, ChoiceSpelled}
 use Rattle.ecd_syntax.specs.Reading.{Taken, Halted, Reader, ◌>>=◌, taken, stuck, with_rest, choose, on, token, begins, behind, each, more_listed, listed, angled, made, type_at, alts_of, occur_at, colon_behind, body_behind, behind_choice, open_body, colon_body, keyed_body, body_at, entry_at, skip_comma, entry_in_way, goes_on, ways_at, group_at, name_and_args, six_major, tag_at, behind_hash, bracket_at, behind_ampersand, prefixed_at, form_at, operand_at, operation_at, choice_layer, operand_of, operation_of, choice_of, way_of, group_of, entry_of}
-use Rattle.ecd_syntax.proofs.Readers.{Example, Good, Late, if_reads, if_stopped, if_first, bind_cases, ended, good_bind, good_weak, good_taken, good_stuck, good_on, good_token, good_each, good_fueled, good_placed, after, TestsFirst, NonEmpty, left_of}
+use Rattle.ecd_reading.specs.Reading.{after}
+use Rattle.ecd_reading.proofs.Readers.{if_reads, if_stopped, if_first, bind_cases, ended, good_bind, good_weak, good_taken, good_stuck, good_on, TestsFirst, begun, begins_tests, left_of}
+use Rattle.ecd_syntax.proofs.Readers.{Example, Good, Late, good_token, good_each, good_fueled, good_placed, NonEmpty}
 
 -- ---- examples of single marks
 
@@ -48,14 +49,6 @@ good_sign sign = good_token (sign_of sign) (single (sign_of sign) tt (kinds.Sign
 
 pub good_name : Good (One name_of) (token name_of)
 good_name = good_token name_of (single name_of (record { at = 0; text = [] }) (kinds.Name []) refl)
-
-begun : {A : Type 0} (o : Option A) (rest other : List Mark) → is_some (with_rest rest o) ≡ is_some (with_rest other o)
-begun None rest other = refl
-begun (Some x) rest other = refl
-
-pub begins_tests : {A : Type 0} (table : Mark → Option A) → TestsFirst (begins table)
-begins_tests table [] rest other h = absurd (omega arith)
-begins_tests table (m ∷ front) rest other h = begun (table m) (front ++ rest) (front ++ other)
 
 pub none_if : {A : Type 0} (o : Option A) → ((x : A) → o ≡ Some x → ⊥) → o ≡ None
 none_if None h = refl

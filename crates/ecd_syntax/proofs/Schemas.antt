@@ -17,7 +17,9 @@ use Rattle.ecd_syntax.specs.declared.tree.Type2.{out-roll-Type2}
 use Rattle.ecd_syntax.specs.Marks.{Mark, place, name_of, literal_of, assign_of}
 use Rattle.ecd_syntax.specs.Grammar.{One, At, Angled, TypeSpelled, OperandSpelled, FormSpelled, ChoiceSpelled, ChoiceWithin, TypeAlone, BodySpelled, RuleSpelled, RulesSpelled}
 use Rattle.ecd_syntax.specs.Reading.{Taken, Halted, Deep, Reader, taken, stuck, token, each, angled, made, type_at, choice_at, assigned, rule_at, is_more, rules_at, operand_of, choice_of, entry_of, rule_of}
-use Rattle.ecd_syntax.proofs.Readers.{Good, Late, good_bind, good_taken, good_token, good_each, good_placed, after, TestsFirst, NonEmpty, ended}
+use Rattle.ecd_reading.specs.Reading.{after}
+use Rattle.ecd_reading.proofs.Readers.{good_bind, good_taken, more_tests, ended}
+use Rattle.ecd_syntax.proofs.Readers.{Good, Late, good_token, good_each, good_placed, NonEmpty}
 use Rattle.ecd_syntax.proofs.Parts.{example_mark, single, good_name, one_some, then_first, Made, good_made, good_made_as, good_angled, good_type, type_some, good_entry, good_layer, layer_some, late_layer, late_form_name, late_form_literal}
 
 abbrev halted : {A : Type 0} → Halted → Result (Taken A) Halted
@@ -90,10 +92,6 @@ knot (suc n) =
     }
 
 -- ---- rules
-
-more_tests : TestsFirst is_more
-more_tests [] rest other h = absurd (omega arith)
-more_tests (m ∷ front) rest other h = refl
 
 module _ (C : Type1 → List Mark → Type 0) (one : Reader Type1) (good : Good C one) (some : NonEmpty C) (late_name : Late name_of one) (late_literal : Late literal_of one) where
   alone_starts : (at : ℕ) (e : Entry) (ms : List Mark) → Made (entry_of at None keys.Missing) (TypeSpelled C) e ms → (0 < length ms) × (place ms ≡ at → TypeAlone C e ms)

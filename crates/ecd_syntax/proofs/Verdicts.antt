@@ -10,7 +10,8 @@ use Rattle.ecd_syntax.specs.Marks.{Mark, marks, mark_behind, marks_behind, six_a
 use Rattle.ecd_syntax.specs.Grammar.{RulesSpelled, ChoiceWithin, Spells}
 use Rattle.ecd_syntax.specs.Reading.{Deep, taken, stuck, rules_at, choice_at}
 use Rattle.ecd_syntax.specs.Faults.{Completes, NoneGoesOn, IsUnexpected, open_behind, open_after, StaysWithin, IsWithin, place_or, UnexpectedAt, TooNestedAt}
-use Rattle.ecd_syntax.proofs.Readers.{Plain, ok_is}
+use Rattle.ecd_reading.proofs.Readers.{ok_is}
+use Rattle.ecd_syntax.proofs.Readers.{Plain}
 use Rattle.ecd_syntax.proofs.Schemas.{good_schema}
 use Rattle.ecd_syntax.proofs.Complete.{schema_is}
 use Rattle.ecd_syntax.proofs.Grows.{schema_grows}

@@ -1,8 +1,11 @@
 -- Reading marks from left to right, up to the first that cannot be taken.
-use Rattle.std.specs.Prelude.{ℕ, zero, suc, Bool, true, false, not, ◌||◌, List, [], ◌∷◌, length, drop, Option, Some, None, Result, Ok, Err, is_some, nat_eq, if◌then◌else◌}
+use Rattle.std.specs.Prelude.{ℕ, zero, suc, Bool, true, false, not, ◌||◌, List, [], ◌∷◌, length, drop, Option, Some, None, Err, nat_eq, if◌then◌else◌}
 use Rattle.ecd_lex.specs.declared.token.Bound.{Bound}
 use Rattle.ecd_lex.specs.declared.token.Sign.{Sign}
 use Rattle.ecd_lex.specs.declared.token.Sign.TheVariants as signs
+use Rattle.ecd_reading.specs.Reading as read
+pub use Rattle.ecd_reading.specs.Reading.{Stuck, Deep, ◌>>=◌, taken, stuck, with_rest, peek, choose, on, token, begins, is_more, behind, each}
+unfoldable pub use Rattle.ecd_reading.specs.Reading.{many}
 use Rattle.ecd_syntax.specs.declared.tree.Alts.{Alts, roll-Alts}
 use Rattle.ecd_syntax.specs.declared.tree.Assign.{Assign}
 use Rattle.ecd_syntax.specs.declared.tree.Assign.TheVariants.{Define, TypeMore, GroupMore}
@@ -22,63 +25,14 @@ use Rattle.ecd_syntax.specs.declared.tree.Type2.{Type2, roll-Type2}
 use Rattle.ecd_syntax.specs.declared.tree.WayTree.{WayTree, roll-WayTree}
 use Rattle.ecd_syntax.specs.Marks.{Mark, place, name_of, literal_of, occur_of, hash_of, operator_of, assign_of, sign_of, tag_of}
 
--- what is read: a value, and the marks behind it
-pub record Taken (A : Type 0) : Type 0 where
-  pub value : A
-  pub rest : List Mark
+abbrev pub Taken : Type 0 → Type 0
+Taken A = read.Taken Mark A
 
--- why nothing is read: the first of these marks, or their end, cannot be taken; or types stand too deep inside each other
-pub data Halted : Type 0 where
-  Stuck : List Mark → Halted
-  Deep : Halted
+abbrev pub Halted : Type 0
+Halted = read.Halted Mark
 
 abbrev pub Reader : Type 0 → Type 0
-Reader A = List Mark → Result (Taken A) Halted
-
-infixl 10 ◌>>=◌
-abbrev pub ◌>>=◌ : {A B : Type 0} → Result A Halted → (A → Result B Halted) → Result B Halted
-(Ok x) >>= f = f x
-(Err e) >>= f = Err e
-
-abbrev pub taken : {A : Type 0} → A → Reader A
-taken x rest = Ok record { value = x; rest = rest }
-
-abbrev pub stuck : {A : Type 0} → Reader A
-stuck ms = Err (Stuck ms)
-
-abbrev pub with_rest : {A : Type 0} → List Mark → Option A → Option (Taken A)
-with_rest rest None = None
-with_rest rest (Some x) = Some record { value = x; rest = rest }
-
--- what the table says of the first mark
-abbrev pub peek : {A : Type 0} → (Mark → Option A) → List Mark → Option (Taken A)
-peek table [] = None
-peek table (m ∷ ms) = with_rest ms (table m)
-
-abbrev pub choose : {A B : Type 0} → Option (Taken A) → (A → Reader B) → Reader B → Reader B
-choose None p q ms = q ms
-choose (Some t) p q ms = p t.value t.rest
-
--- the one behind a mark of which the table says something, and else the other
-abbrev pub on : {A B : Type 0} → (Mark → Option A) → (A → Reader B) → Reader B → Reader B
-on table p q ms = choose (peek table ms) p q ms
-
-abbrev pub token : {A : Type 0} → (Mark → Option A) → Reader A
-token table = on table taken stuck
-
-abbrev pub begins : {A : Type 0} → (Mark → Option A) → List Mark → Bool
-begins table ms = is_some (peek table ms)
-
-abbrev pub behind : {A B : Type 0} → (Mark → Option A) → Reader B → Reader B
-behind table one ms = token table ms >>= λ s. one s.rest
-
--- one after the other while the test holds, no more than so many
-unfoldable pub many : {A : Type 0} → (List Mark → Bool) → Reader A → ℕ → Reader (List A)
-many test one zero ms = taken [] ms
-many test one (suc n) ms = if test ms then (one ms >>= λ x. many test one n x.rest >>= λ xs. taken (x.value ∷ xs.value) xs.rest) else taken [] ms
-
-abbrev pub each : {A : Type 0} → (List Mark → Bool) → Reader A → Reader (List A)
-each test one ms = many test one (suc (length ms)) ms
+Reader A = read.Reader Mark A
 
 abbrev pub more_listed : {A : Type 0} → Sign → Reader A → A → Reader (List A)
 more_listed sign one x ms = each (begins (sign_of sign)) (behind (sign_of sign) one) ms >>= λ xs. taken (x ∷ xs.value) xs.rest
@@ -239,10 +193,6 @@ assigned one GroupMore = entry_at one
 
 unfoldable pub rule_at : Reader Type1 → Reader Rule
 rule_at one ms = token name_of ms >>= λ n. angled (token name_of) n.rest >>= λ ps. token assign_of ps.rest >>= λ a. made (rule_of (place ms) n.value ps.value a.value) (assigned one a.value) a.rest
-
-abbrev pub is_more : List Mark → Bool
-is_more [] = false
-is_more (m ∷ ms) = true
 
 -- a rule and those behind it
 abbrev pub more_rules : Reader Type1 → Rule → Reader (List Rule)

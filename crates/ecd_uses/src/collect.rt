@@ -4,9 +4,9 @@ ghost use Rattle.std.specs.Prelude.{◌≡◌, ◌++◌, IfOk, OnOk};
 ghost use Rattle.ecd_uses.specs.Sites.{asks_type as is_asked, are_several as several, type_asked as asked_by, parenthesis, sites_of, entry_sites, key_sites, type_sites, choice_sites, group_sites};
 ghost use Rattle.ecd_uses.specs.Listed.{lead_in, operand_sites, choices_listed, way_listed, named_sites};
 
-use crate::leading::{MOST_LEVELS, copied, group_lead, is_keyed};
+use crate::leading::{copied, group_lead, is_keyed};
 use crate::site::{Asked, Site, SiteList};
-use ecd_list::OutOfMemory;
+use ecd_list::{MOST_LEVELS, OutOfMemory};
 use ecd_syntax::{Alts, Assign, Entry, Form, GroupTree, Key, Name, Rule, Type1, Type2, WayTree};
 use std::alloc::Global;
 
@@ -15,7 +15,7 @@ use std::alloc::Global;
 ///
 /// # Errors
 ///
-/// `OutOfMemory` where a growth was refused, there are more than 2^32 - 1 sites, or choices of a type stand inside each other in more than 1,000 levels: the
+/// `OutOfMemory` where a growth was refused, there are more than 2^32 - 1 sites, or choices of a type stand inside each other in more than `MOST_LEVELS` levels: the
 /// stack is memory.
 pub fn sites(alloc: Global, rule: &Rule) -> Result<SiteList, OutOfMemory>
     ensures { IfOk result (λ s. s ≡ sites_of rule.now) }

@@ -6,18 +6,15 @@ ghost use Rattle.ecd_uses.specs.Listed.{lead_in, operand_lead as lead_of_operand
 ghost use Rattle.ecd_uses.specs.Sites.{is_keyed as has_key};
 
 use crate::site::Lead;
-use ecd_list::{List, OutOfMemory};
+use ecd_list::{List, MOST_LEVELS, OutOfMemory};
 use ecd_syntax::{Alts, Entry, Form, GroupTree, Key, Name, Type1, Type2, WayTree};
 use std::alloc::Global;
-
-/// The most choices of a type inside each other that are walked; behind them the stack counts as used up.
-pub(crate) const MOST_LEVELS: u32 = 1_000;
 
 /// What decides whether the entry is a type or a group (RFC 8610, sections 2.1 and 2.2).
 ///
 /// # Errors
 ///
-/// `OutOfMemory` where a growth was refused, or more than 1,000 choices of a type stand each alone in the parenthesis of the one before: the stack is memory.
+/// `OutOfMemory` where a growth was refused, or more than `MOST_LEVELS` choices of a type stand each alone in the parenthesis of the one before: the stack is memory.
 pub fn lead(alloc: Global, entry: &Entry) -> Result<Lead, OutOfMemory>
     ensures { IfOk result (λ l. l ≡ lead_of entry.now) }
 {

@@ -1,5 +1,5 @@
 use Rattle.ecd_cast.proofs.KindLayers.{broken-Load, broken-Binary, broken-Not, kind-Binary}
-use Rattle.ecd_cjudge.proofs.Sees.{finds_then}
+use Rattle.ecd_cjudge.proofs.Taking.{finds_then}
 use Rattle.ecd_cjudge.proofs.judge_expr.+judge_expr.Goals as goal
 
 pub returns-in_ok-kind-in-Load-clause-faults : goal.returns-in_ok-kind-in-Load-clause-faults

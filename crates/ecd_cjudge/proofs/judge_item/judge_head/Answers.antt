@@ -3,7 +3,7 @@ use Rattle.std.specs.Prelude.{flat_map, not}
 use Rattle.ecd_cast.specs.declared.tree.Param.{Param}
 use Rattle.ecd_cast.specs.Kinds.{unless}
 use Rattle.ecd_cast.specs.Validity.{param_broken, struct_names, function_names, is_among, block_returns}
-use Rattle.ecd_cjudge.proofs.Sees.{finds_then, finds_same}
+use Rattle.ecd_cjudge.proofs.Taking.{finds_then, finds_same}
 use Rattle.ecd_cjudge.proofs.judge_item.judge_head.Goals as goal
 
 pub returns : goal.returns

@@ -2,7 +2,7 @@ use Rattle.std.proofs.Common.{sym, take}
 use Rattle.ecd_cast.specs.declared.tree.Param.{Param}
 use Rattle.ecd_cast.specs.Validity.{param_broken, struct_names}
 use Rattle.ecd_cjudge.proofs.Args.{flat-more}
-use Rattle.ecd_cjudge.proofs.Sees.{finds_then, finds_same}
+use Rattle.ecd_cjudge.proofs.Taking.{finds_then, finds_same}
 use Rattle.ecd_cjudge.proofs.judge_item.judge_params.Goals as goal
 
 pub loop-param-preserved : goal.loop-param-preserved

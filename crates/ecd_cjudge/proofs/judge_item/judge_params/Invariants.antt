@@ -1,7 +1,7 @@
 use Rattle.std.proofs.Common.{take}
 use Rattle.std.specs.Prelude.{flat_map}
 use Rattle.ecd_cast.specs.Validity.{param_broken, struct_names}
-use Rattle.ecd_cjudge.specs.First.{Finds, place_as}
+use Rattle.ecd_cjudge.specs.Faults.{Finds, place_as}
 use Rattle.ecd_cjudge.proofs.judge_item.judge_params.Given as goal
 
 abbrev pub invariant-loop-param : goal.invariant-loop-param

@@ -2,7 +2,7 @@ use Rattle.std.proofs.Common.{◌≡◌, sym, ap, arith, ◌+◌, ◌∷◌, []}
 use Rattle.ecd_cast.specs.Memory.{Name}
 use Rattle.ecd_cast.specs.Meaning.{count_all}
 use Rattle.ecd_cast.specs.Validity.{Naming, named_in, named_by}
-use Rattle.ecd_cjudge.specs.First.{place_as}
+use Rattle.ecd_cjudge.specs.Faults.{place_as}
 use Rattle.ecd_cjudge.proofs.StmtLayers.{count-If, count-For, count-more}
 use Rattle.ecd_cjudge.proofs.NameLayers.{named_then, named_same, named-If, named-For, named-more}
 use Rattle.ecd_cjudge.proofs.judge_names.+names.Goals as goal

@@ -1,7 +1,7 @@
 use Rattle.std.proofs.Common.{◌≡◌, ◌+◌, take}
 use Rattle.ecd_cast.specs.Meaning.{count_all}
 use Rattle.ecd_cast.specs.Validity.{named_in}
-use Rattle.ecd_cjudge.specs.First.{place_as}
+use Rattle.ecd_cjudge.specs.Faults.{place_as}
 use Rattle.ecd_cjudge.specs.Names.{Named}
 use Rattle.ecd_cjudge.proofs.judge_names.+names.Given as goal
 

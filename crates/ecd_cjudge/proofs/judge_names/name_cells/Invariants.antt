@@ -1,7 +1,7 @@
 use Rattle.std.proofs.Common.{take}
 use Rattle.std.specs.Prelude.{map}
 use Rattle.ecd_cast.specs.Validity.{head_names}
-use Rattle.ecd_cjudge.specs.First.{place_as}
+use Rattle.ecd_cjudge.specs.Faults.{place_as}
 use Rattle.ecd_cjudge.specs.Names.{Named}
 use Rattle.ecd_cjudge.proofs.judge_names.name_cells.Given as goal
 

@@ -2,7 +2,7 @@ use Rattle.std.proofs.Common.{sym, ap, ◌∷◌, []}
 use Rattle.ecd_cast.specs.declared.tree.Param.{Param}
 use Rattle.ecd_cast.specs.Memory.{Name}
 use Rattle.ecd_cast.specs.Validity.{Naming}
-use Rattle.ecd_cjudge.specs.First.{place_as}
+use Rattle.ecd_cjudge.specs.Faults.{place_as}
 use Rattle.ecd_cjudge.proofs.NameLayers.{named_then, named_same, head-more}
 use Rattle.ecd_cjudge.proofs.judge_names.name_params.Goals as goal
 

@@ -3,7 +3,7 @@ use Rattle.std.specs.Prelude.{◌&&◌, slice_get}
 use Rattle.ecd_cast.specs.Kinds.{broken_by}
 use Rattle.ecd_cscope.specs.Surroundings.{structs_before, takes_at}
 use Rattle.ecd_cjudge.proofs.Args.{flat-more, fit-more, fit-whole}
-use Rattle.ecd_cjudge.proofs.Sees.{finds_then, finds_same}
+use Rattle.ecd_cjudge.proofs.Taking.{finds_then, finds_same}
 use Rattle.ecd_cjudge.proofs.judge_source.judge_args.Goals as goal
 
 pub loop-number-preserved : goal.loop-number-preserved

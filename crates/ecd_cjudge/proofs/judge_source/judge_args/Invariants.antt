@@ -1,7 +1,7 @@
 use Rattle.std.proofs.Common.{◌≡◌, take}
 use Rattle.std.specs.Prelude.{flat_map}
 use Rattle.ecd_cast.specs.Kinds.{broken_by, args_fit}
-use Rattle.ecd_cjudge.specs.First.{Finds, place_as}
+use Rattle.ecd_cjudge.specs.Faults.{Finds, place_as}
 use Rattle.ecd_cscope.specs.Surroundings.{structs_before}
 use Rattle.ecd_cjudge.proofs.judge_source.judge_args.Given as goal
 

@@ -1,4 +1,4 @@
-use Rattle.ecd_cjudge.proofs.Sees.{finds_then}
+use Rattle.ecd_cjudge.proofs.Taking.{finds_then}
 use Rattle.ecd_cjudge.proofs.judge_source.judge_as.Goals as goal
 
 pub returns : goal.returns

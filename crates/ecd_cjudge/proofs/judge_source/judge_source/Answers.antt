@@ -3,7 +3,7 @@ use Rattle.ecd_cast.specs.Memory.{Name}
 use Rattle.ecd_cast.specs.Kinds.{args_fit}
 use Rattle.ecd_cscope.specs.Surroundings.{structs_before, IsFound}
 use Rattle.ecd_cjudge.proofs.Args.{call-found}
-use Rattle.ecd_cjudge.proofs.Sees.{finds_then, finds_same}
+use Rattle.ecd_cjudge.proofs.Taking.{finds_then, finds_same}
 use Rattle.ecd_cjudge.proofs.judge_source.judge_source.Goals as goal
 
 pub returns-in_ok-fit-in-Call : goal.returns-in_ok-fit-in-Call

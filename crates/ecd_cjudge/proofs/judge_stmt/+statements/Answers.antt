@@ -1,11 +1,11 @@
 use Rattle.std.proofs.Common.{take, ◌≡◌, ◌∙◌, sym, ap, arith, ◌+◌, ◌∷◌}
-use Rattle.ecd_cjudge.specs.First.{place_as}
+use Rattle.ecd_cjudge.specs.Faults.{place_as}
 use Rattle.ecd_cast.specs.Kinds.{ANumber}
 use Rattle.ecd_cast.specs.Meaning.{count_all}
 use Rattle.ecd_cast.specs.Validity.{known_after, at_place, own_rules, block_faults, in_loop}
 use Rattle.ecd_cscope.specs.Surroundings.{around_as}
 use Rattle.ecd_cscope.proofs.Known.{left_block}
-use Rattle.ecd_cjudge.proofs.Sees.{sees_then, sees_same}
+use Rattle.ecd_cjudge.proofs.Taking.{all_then, all_same}
 use Rattle.ecd_cjudge.proofs.StmtLayers.{faults-If, faults-For, count-If, count-For, count-more, behind-more, sees_more}
 use Rattle.ecd_cjudge.proofs.judge_stmt.+statements.Goals as goal
 
@@ -37,10 +37,10 @@ judge_stmt-returns-in_ok-next-in-If-clause-faults t c =
     let first : c.in_ok-inner.inner ≡ c.args.spot.statement + 1 = grind arith in
     let second : c.in_ok-behind-in-If.behind ≡ c.args.spot.statement + (1 + count_all c.in-If.yes) =
     omega (arith, first, c.in_ok-behind-in-If.ensures.next, ap count_all c.as_slice-in-If.ensures) in
-    let own = sees_same (λ j. at_place (place_as c.args.spot) (own_rules (around_as a loops) known (c.in-If.is j))) c.in_ok-judge_own.ensures.sees in
-    let yes = sees_same (λ j. block_faults (around_as a loops) known (c.as_slice-in-If.ensures j) (record { item = c.args.spot.item; statement = first j })) c.in_ok-behind-in-If.ensures.faults in
-    let no = sees_same (λ j. block_faults (around_as a (c.in_ok-behind-in-If.ensures.loops j)) (c.in_ok-behind-in-If.ensures.known j) (c.as_slice-in-If-2.ensures j) (record { item = c.args.spot.item; statement = second j })) c.in_ok-next-in-If.ensures.faults in
-    rw (c.in-If.is, faults-If) (sees_then (sees_then own yes) no)
+    let own = all_same (λ j. at_place (place_as c.args.spot) (own_rules (around_as a loops) known (c.in-If.is j))) c.in_ok-judge_own.ensures.sees in
+    let yes = all_same (λ j. block_faults (around_as a loops) known (c.as_slice-in-If.ensures j) (record { item = c.args.spot.item; statement = first j })) c.in_ok-behind-in-If.ensures.faults in
+    let no = all_same (λ j. block_faults (around_as a (c.in_ok-behind-in-If.ensures.loops j)) (c.in_ok-behind-in-If.ensures.known j) (c.as_slice-in-If-2.ensures j) (record { item = c.args.spot.item; statement = second j })) c.in_ok-next-in-If.ensures.faults in
+    rw (c.in-If.is, faults-If) (all_then (all_then own yes) no)
 
 pub judge_stmt-returns-in_ok-next-in-If-clause-next : goal.judge_stmt-returns-in_ok-next-in-If-clause-next
 judge_stmt-returns-in_ok-next-in-If-clause-next t c =
@@ -55,11 +55,11 @@ judge_stmt-returns-in_ok-leave-in-For-2-clause-faults t c =
     let loops = c.args.scope.now.loops in
     let known = c.args.scope.now.known in
     let first : c.in_ok-inner.inner ≡ c.args.spot.statement + 1 = grind arith in
-    let own = sees_same (λ j. at_place (place_as c.args.spot) (own_rules (around_as a loops) known (c.in-For.is j))) c.in_ok-judge_own.ensures.sees in
+    let own = all_same (λ j. at_place (place_as c.args.spot) (own_rules (around_as a loops) known (c.in-For.is j))) c.in_ok-judge_own.ensures.sees in
     let around = ap (around_as a) c.in_ok-enter-in-For.ensures.loops ∙ (λ j. in_loop (around_as a loops) (c.as_slice-in-For.ensures j) (c.as_slice-in-For-2.ensures j)) in
     let variables = c.in_ok-enter-in-For.ensures.known ∙ (λ j. (c.as_slice-in-For.ensures j, ANumber) ∷ known) in
-    let body = sees_same (λ j. block_faults (around j) (variables j) (c.as_slice-in-For-3.ensures j) (record { item = c.args.spot.item; statement = first j })) c.in_ok-next-in-For.ensures.faults in
-    rw (c.in-For.is, faults-For) (sees_then own body)
+    let body = all_same (λ j. block_faults (around j) (variables j) (c.as_slice-in-For-3.ensures j) (record { item = c.args.spot.item; statement = first j })) c.in_ok-next-in-For.ensures.faults in
+    rw (c.in-For.is, faults-For) (all_then own body)
 
 pub judge_stmt-returns-in_ok-leave-in-For-2-clause-next : goal.judge_stmt-returns-in_ok-leave-in-For-2-clause-next
 judge_stmt-returns-in_ok-leave-in-For-2-clause-next t c =

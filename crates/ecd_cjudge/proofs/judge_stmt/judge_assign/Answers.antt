@@ -1,4 +1,4 @@
-use Rattle.ecd_cjudge.proofs.Sees.{finds_then}
+use Rattle.ecd_cjudge.proofs.Taking.{finds_then}
 use Rattle.ecd_cjudge.proofs.judge_stmt.judge_assign.Goals as goal
 
 pub returns : goal.returns

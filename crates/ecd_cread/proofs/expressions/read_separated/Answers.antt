@@ -2,9 +2,10 @@ use Rattle.std.proofs.Common.{◌≡◌, ℕ, suc, ◌+◌, ◌-◌, ◌∷◌, 
 use Rattle.std.specs.Prelude.{codes}
 use Rattle.std.proofs.lemmas.List.{length-append}
 use Rattle.std.proofs.lemmas.Result.{err_from_is_err_and}
-use Rattle.ecd_cgrammar.specs.Reading.{same, begins, expect, many, separated, expr_at}
-use Rattle.ecd_cread.specs.Scan.{lexemes}
-use Rattle.ecd_cread.proofs.Loops.{with_front, goes, ends, done, first_is, first_fails, comma_here, no_comma_here, behind_comma}
+use Rattle.ecd_cgrammar.specs.Reading.{same, begins, expect, deep, many, separated, expr_at}
+use Rattle.ecd_clex.specs.Tokens.{lexemes}
+use Rattle.ecd_reading.proofs.Loops.{with_front, goes, done}
+use Rattle.ecd_cread.proofs.Loops.{ends, first_is, first_fails, comma_here, no_comma_here, behind_comma}
 use Rattle.ecd_cread.proofs.expressions.read_separated.Goals as goal
 
 pub returns-in_err-first-clause-gives : goal.returns-in_err-first-clause-gives
@@ -33,8 +34,8 @@ loop-next-init c =
       within = c.in_ok-first.ensures.within;
       after = c.in_ok-first.ensures.after;
       count = omega (arith, alone, c.in_ok-first.ensures.after);
-      gives = ap (λ xs. with_front xs (many test next (suc size - length c.push.new.self) (drop c.in_ok-first.behind ms))) whole
-          ∙ ap (λ (n : ℕ). with_front (c.in_ok-first.first ∷ []) (many test next n (drop c.in_ok-first.behind ms))) fuel
+      gives = ap (λ xs. with_front xs (many test next deep (suc size - length c.push.new.self) (drop c.in_ok-first.behind ms))) whole
+          ∙ ap (λ (n : ℕ). with_front (c.in_ok-first.first ∷ []) (many test next deep n (drop c.in_ok-first.behind ms))) fuel
           ∙ first_is test next one size c.in_ok-first.first (drop c.args.at ms) (drop c.in_ok-first.behind ms) c.in_ok-first.ensures.gives;
     }
 
@@ -71,8 +72,8 @@ loop-next-preserved c =
       within = c.in_ok-argument.ensures.within;
       after = omega (arith, c.in-Some.ensures.within, c.in_ok-argument.ensures.after, c.loop-next.invariant.after);
       count = omega (arith, longer, c.in-Some.ensures.within, c.in_ok-argument.ensures.after, c.loop-next.invariant.count);
-      gives = ap (λ xs. with_front xs (many test next (suc size - length c.push-in-Some.new.self) (drop c.in_ok-argument.behind ms))) c.in_ok-push-2.ensures.ok
-          ∙ goes test next fuel (suc size - length c.push-in-Some.new.self) c.loop-next.args here (drop c.in_ok-argument.behind ms) c.in_ok-argument.argument total
+      gives = ap (λ xs. with_front xs (many test next deep (suc size - length c.push-in-Some.new.self) (drop c.in_ok-argument.behind ms))) c.in_ok-push-2.ensures.ok
+          ∙ goes deep test next fuel (suc size - length c.push-in-Some.new.self) c.loop-next.args here (drop c.in_ok-argument.behind ms) c.in_ok-argument.argument total
           less
           (comma_here ms here c.in-Some.next c.in-Some.ensures.found)
           (behind_comma ms one here c.in-Some.next c.in-Some.ensures.found ∙ c.in_ok-argument.ensures.gives)
@@ -89,7 +90,7 @@ returns-clause-gives c =
     let here = drop c.loop-next.here ms in
     let total = separated one size (drop c.args.at ms) in
     let fuel : ℕ = suc size - length c.loop-next.args in
-    done test next fuel (fuel - 1) c.loop-next.args here total
+    done deep test next fuel (fuel - 1) c.loop-next.args here total
     (omega (arith, c.loop-next.invariant.within, c.loop-next.invariant.count))
     (no_comma_here ms here c.in_default.ensures.found)
     c.loop-next.invariant.gives

@@ -2,9 +2,10 @@ use Rattle.std.proofs.Common.{◌≡◌, ℕ, suc, ◌+◌, ◌-◌, ◌∷◌, 
 use Rattle.std.specs.Prelude.{codes, not}
 use Rattle.std.proofs.lemmas.List.{length-append}
 use Rattle.std.proofs.lemmas.Result.{err_from_is_err_and}
-use Rattle.ecd_cgrammar.specs.Reading.{is_before, many, cell_at, cells_at}
-use Rattle.ecd_cread.specs.Scan.{lexemes}
-use Rattle.ecd_cread.proofs.Loops.{with_front, goes, ends, done, first_is, first_fails}
+use Rattle.ecd_cgrammar.specs.Reading.{is_before, deep, many, cell_at, cells_at}
+use Rattle.ecd_clex.specs.Tokens.{lexemes}
+use Rattle.ecd_reading.proofs.Loops.{with_front, goes, done}
+use Rattle.ecd_cread.proofs.Loops.{ends, first_is, first_fails}
 use Rattle.ecd_cread.proofs.items.read_cells.Goals as goal
 
 pub returns-in_err-first-clause-gives : goal.returns-in_err-first-clause-gives
@@ -29,8 +30,8 @@ loop-alloc-init c =
       within = c.in_ok-first.ensures.within;
       after = c.in_ok-first.ensures.after;
       count = omega (arith, alone, c.in_ok-first.ensures.after);
-      gives = ap (λ xs. with_front xs (many test cell_at (suc size - length c.push.new.self) (drop c.in_ok-first.behind ms))) whole
-          ∙ ap (λ (n : ℕ). with_front (c.in_ok-first.first ∷ []) (many test cell_at n (drop c.in_ok-first.behind ms))) fuel
+      gives = ap (λ xs. with_front xs (many test cell_at deep (suc size - length c.push.new.self) (drop c.in_ok-first.behind ms))) whole
+          ∙ ap (λ (n : ℕ). with_front (c.in_ok-first.first ∷ []) (many test cell_at deep n (drop c.in_ok-first.behind ms))) fuel
           ∙ first_is test cell_at cell_at size c.in_ok-first.first (drop c.args.at ms) (drop c.in_ok-first.behind ms) c.in_ok-first.ensures.gives;
     }
 
@@ -63,8 +64,8 @@ loop-alloc-preserved c =
       within = c.in_ok-cell.ensures.within;
       after = omega (arith, c.in_ok-cell.ensures.after, c.loop-alloc.invariant.after);
       count = omega (arith, longer, c.in_ok-cell.ensures.after, c.loop-alloc.invariant.count);
-      gives = ap (λ xs. with_front xs (many test cell_at (suc size - length c.push-in-loop-alloc.new.self) (drop c.in_ok-cell.behind ms))) c.in_ok-push-2.ensures.ok
-          ∙ goes test cell_at fuel (suc size - length c.push-in-loop-alloc.new.self) c.loop-alloc.cells here (drop c.in_ok-cell.behind ms) c.in_ok-cell.cell total
+      gives = ap (λ xs. with_front xs (many test cell_at deep (suc size - length c.push-in-loop-alloc.new.self) (drop c.in_ok-cell.behind ms))) c.in_ok-push-2.ensures.ok
+          ∙ goes deep test cell_at fuel (suc size - length c.push-in-loop-alloc.new.self) c.loop-alloc.cells here (drop c.in_ok-cell.behind ms) c.in_ok-cell.cell total
           less
           (ap not (sym c.is_here.ensures ∙ c.loop-alloc-test.true))
           c.in_ok-cell.ensures.gives
@@ -79,7 +80,7 @@ returns-clause-gives c =
     let here = drop c.loop-alloc.here ms in
     let total = cells_at size (drop c.args.at ms) in
     let fuel : ℕ = suc size - length c.loop-alloc.cells in
-    done test cell_at fuel (fuel - 1) c.loop-alloc.cells here total
+    done deep test cell_at fuel (fuel - 1) c.loop-alloc.cells here total
     (omega (arith, c.loop-alloc.invariant.within, c.loop-alloc.invariant.count))
     (ap not (sym c.is_here.ensures ∙ c.loop-alloc-test.false))
     c.loop-alloc.invariant.gives

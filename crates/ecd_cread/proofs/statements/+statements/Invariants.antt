@@ -1,8 +1,8 @@
 use Rattle.std.proofs.Common.{◌≡◌, ◌+◌, ◌-◌, ◌*◌, ◌≤◌, suc, length, drop}
 use Rattle.std.specs.Prelude.{codes}
-use Rattle.ecd_cgrammar.specs.Reading.{is_before, many, stmt_at}
-use Rattle.ecd_cread.specs.Scan.{lexemes}
-use Rattle.ecd_cread.proofs.Loops.{with_front}
+use Rattle.ecd_cgrammar.specs.Reading.{is_before, deep, many, stmt_at}
+use Rattle.ecd_clex.specs.Tokens.{lexemes}
+use Rattle.ecd_reading.proofs.Loops.{with_front}
 use Rattle.ecd_cread.proofs.statements.+statements.Given as goal
 
 abbrev pub decreases-read_stmt : goal.decreases-read_stmt
@@ -32,7 +32,7 @@ invariant-read_statements-loop-alloc l =
       within : l.here ≤ length l.tokens;
       after : l.at ≤ l.here;
       count : length l.statements + l.at ≤ l.here;
-      gives : with_front l.statements (many (is_before (codes "}")) (stmt_at (suc (length l.tokens)) l.levels) (suc (length l.tokens) - length l.statements) (drop l.here (lexemes l.text l.tokens))) ≡ many (is_before (codes "}")) (stmt_at (suc (length l.tokens)) l.levels) (suc (length l.tokens)) (drop l.at (lexemes l.text l.tokens));
+      gives : with_front l.statements (many (is_before (codes "}")) (stmt_at (suc (length l.tokens)) l.levels) deep (suc (length l.tokens) - length l.statements) (drop l.here (lexemes l.text l.tokens))) ≡ many (is_before (codes "}")) (stmt_at (suc (length l.tokens)) l.levels) deep (suc (length l.tokens)) (drop l.at (lexemes l.text l.tokens));
     }
 
 abbrev pub decreases-read_statements-loop-alloc : goal.decreases-read_statements-loop-alloc

@@ -1,6 +1,5 @@
 use Rattle.std.proofs.Common.{◌≡◌, ◌≤◌, ◌+◌, ◌*◌, ◌-◌, length, drop, None}
 use Rattle.std.specs.Option.{option_copied}
-use Rattle.ecd_keyorder.specs.declared.Order.TheVariants.{Bytewise}
 use Rattle.ecd_item_laws.specs.Reading.{many, pairs, item_at}
 use Rattle.ecd_item_laws.proofs.Results.{with_front}
 use Rattle.ecd_item.proofs.read.+reading.Given as goal
@@ -25,7 +24,7 @@ invariant-items_of-loop l =
     record {
       within : l.here ≤ length l.bytes;
       after : l.at ≤ l.here;
-      gives : with_front l.items (many (item_at Bytewise l.depth) (l.count - l.counter) l.here (drop l.here l.bytes)) ≡ many (item_at Bytewise l.depth) l.count l.at (drop l.at l.bytes);
+      gives : with_front l.items (many (item_at l.order l.depth) (l.count - l.counter) l.here (drop l.here l.bytes)) ≡ many (item_at l.order l.depth) l.count l.at (drop l.at l.bytes);
     }
 
 abbrev pub invariant-pairs_of-loop : goal.invariant-pairs_of-loop
@@ -33,5 +32,5 @@ invariant-pairs_of-loop l =
     record {
       within : l.here ≤ length l.bytes;
       after : l.at ≤ l.here;
-      gives : with_front l.pairs (pairs Bytewise (item_at Bytewise l.depth) (option_copied l.last) (l.count - l.counter) l.here (drop l.here l.bytes)) ≡ pairs Bytewise (item_at Bytewise l.depth) None l.count l.at (drop l.at l.bytes);
+      gives : with_front l.pairs (pairs l.order (item_at l.order l.depth) (option_copied l.last) (l.count - l.counter) l.here (drop l.here l.bytes)) ≡ pairs l.order (item_at l.order l.depth) None l.count l.at (drop l.at l.bytes);
     }

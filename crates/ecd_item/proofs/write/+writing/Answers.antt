@@ -1,6 +1,5 @@
 use Rattle.std.proofs.Common.{ap, arith, length, rules}
 use Rattle.ecd_head.specs.Head.{head_bytes}
-use Rattle.ecd_keyorder.specs.declared.Order.TheVariants.{Bytewise}
 use Rattle.ecd_item_laws.specs.Encoding.{encoding}
 use Rattle.ecd_item_laws.specs.declared.item.Item.{the_lemmas}
 use Rattle.ecd_item_laws.proofs.Layers.{encoding-Array, encoding-Map, encoding-Tag, valid_Tag}
@@ -15,7 +14,7 @@ pub emit_array-emit-here-requires : goal.emit_array-emit-here-requires
 emit_array-emit-here-requires t c = (
   search (rules, the_lemmas),
   (
-    item_valid Bytewise c.args.items.now c.loop-item.item-index c.item-item.result c.loop-item-test.true c.item-item.is c.requires.valid,
+    (c.requires.valid.0, item_valid c.requires.valid.0 c.args.items.now c.loop-item.item-index c.item-item.result c.loop-item-test.true c.item-item.is c.requires.valid.1),
     piece_room encoding c.args.items.now c.loop-item.item-index c.item-item.result _ _ c.args.into.now c.loop-item.into c.args.at c.loop-item.here c.loop-item-test.true c.item-item.is (encoding-Array c.args.items.now) c.requires.room c.loop-item.invariant,
   ),
 )
@@ -33,15 +32,15 @@ emit_map-emit_head-here-requires-clause-room t c = head_room c.args.into.now c.a
 
 pub emit_map-emit-here-requires : goal.emit_map-emit-here-requires
 emit_map-emit-here-requires t c =
-    let v = pair_valid Bytewise c.args.pairs.now c.loop-pair.pair-index c.pair-item.result c.loop-pair-test.true c.pair-item.is c.requires.valid in
+    let v = pair_valid c.requires.valid.0 c.args.pairs.now c.loop-pair.pair-index c.pair-item.result c.loop-pair-test.true c.pair-item.is c.requires.valid.1 in
     let r = piece_room pair_bytes c.args.pairs.now c.loop-pair.pair-index c.pair-item.result _ _ c.args.into.now c.loop-pair.into c.args.at c.loop-pair.here c.loop-pair-test.true c.pair-item.is (encoding-Map c.args.pairs.now) c.requires.room c.loop-pair.invariant in
-    (search (rules, the_lemmas), (v.0, key_room (encoding c.pair-item.result.key) (encoding c.pair-item.result.value) c.loop-pair.into c.loop-pair.here r))
+    (search (rules, the_lemmas), ((c.requires.valid.0, v.0), key_room (encoding c.pair-item.result.key) (encoding c.pair-item.result.value) c.loop-pair.into c.loop-pair.here r))
 
 pub emit_map-emit-here-requires-in-loop-pair : goal.emit_map-emit-here-requires-in-loop-pair
 emit_map-emit-here-requires-in-loop-pair t c =
-    let v = pair_valid Bytewise c.args.pairs.now c.loop-pair.pair-index c.pair-item.result c.loop-pair-test.true c.pair-item.is c.requires.valid in
+    let v = pair_valid c.requires.valid.0 c.args.pairs.now c.loop-pair.pair-index c.pair-item.result c.loop-pair-test.true c.pair-item.is c.requires.valid.1 in
     let r = piece_room pair_bytes c.args.pairs.now c.loop-pair.pair-index c.pair-item.result _ _ c.args.into.now c.loop-pair.into c.args.at c.loop-pair.here c.loop-pair-test.true c.pair-item.is (encoding-Map c.args.pairs.now) c.requires.room c.loop-pair.invariant in
-    (search (rules, the_lemmas), (v.1, value_room (encoding c.pair-item.result.key) (encoding c.pair-item.result.value) c.loop-pair.into c.emit-here.new.into c.loop-pair.here c.emit-here.result r c.emit-here.ensures))
+    (search (rules, the_lemmas), ((c.requires.valid.0, v.1), value_room (encoding c.pair-item.result.key) (encoding c.pair-item.result.value) c.loop-pair.into c.emit-here.new.into c.loop-pair.here c.emit-here.result r c.emit-here.ensures))
 
 pub emit_map-loop-pair-preserved : goal.emit_map-loop-pair-preserved
 emit_map-loop-pair-preserved t c =
@@ -54,13 +53,13 @@ emit_map-returns t c =
 
 pub emit_tag-emit-requires : goal.emit_tag-emit-requires
 emit_tag-emit-requires t c =
-    (search (rules, the_lemmas), ((valid_Tag Bytewise c.args.number c.args.inner.now c.requires.valid).1, value_room (head_bytes 6 c.args.number) (encoding c.args.inner.now) c.args.into.now c.emit_head-here.new.into c.args.at c.emit_head-here.result (omega (arith, ap length (encoding-Tag c.args.number c.args.inner.now), c.requires.room)) c.emit_head-here.ensures))
+    (search (rules, the_lemmas), ((c.requires.valid.0, (valid_Tag c.requires.valid.0 c.args.number c.args.inner.now c.requires.valid.1).1), value_room (head_bytes 6 c.args.number) (encoding c.args.inner.now) c.args.into.now c.emit_head-here.new.into c.args.at c.emit_head-here.result (omega (arith, ap length (encoding-Tag c.args.number c.args.inner.now), c.requires.room)) c.emit_head-here.ensures))
 
 pub emit_tag-returns : goal.emit_tag-returns
 emit_tag-returns t c = rw (encoding-Tag c.args.number c.args.inner.now) (Emits-then c.args.into.now c.args.at _ c.emit_head-here.new.into c.emit_head-here.result _ c.emit.new.into c.emit.result c.emit_head-here.ensures c.emit.ensures)
 
 pub emit-emit_head-requires-in-Simple-clause-writable : goal.emit-emit_head-requires-in-Simple-clause-writable
-emit-emit_head-requires-in-Simple-clause-writable t c = simple_writable Bytewise c.args.item.now c.in-Simple.n c.in-Simple.is c.requires.valid
+emit-emit_head-requires-in-Simple-clause-writable t c = simple_writable c.requires.valid.0 c.args.item.now c.in-Simple.n c.in-Simple.is c.requires.valid.1
 
 pub emit_tag-emit_head-here-requires-clause-room : goal.emit_tag-emit_head-here-requires-clause-room
 emit_tag-emit_head-here-requires-clause-room t c = head_room c.args.into.now c.args.at _ _ _ (encoding-Tag c.args.number c.args.inner.now) c.requires.room

@@ -6,9 +6,10 @@ use Rattle.ecd_lex.specs.declared.token.Sign.TheVariants.{Slash}
 use Rattle.ecd_syntax.specs.declared.tree.Form.TheVariants as forms
 use Rattle.ecd_syntax.specs.declared.tree.Key.TheVariants as keys
 use Rattle.ecd_syntax.specs.Marks.{marks, sign_of}
-use Rattle.ecd_syntax.specs.Reading.{many, begins, behind, more_listed, choice_at, each, goes_on, entry_in_way, all_ways, way_of, made, group_at, body_behind, open_body, body_at, behind_choice, alts_of}
+use Rattle.ecd_syntax.specs.Reading.{many, taken, begins, behind, more_listed, choice_at, each, goes_on, entry_in_way, all_ways, way_of, made, group_at, body_behind, open_body, body_at, behind_choice, alts_of}
 use Rattle.ecd_parse.proofs.Tokens.{length_marks}
-use Rattle.ecd_parse.proofs.Loops.{goes, ends, done, sign_here, no_sign_here, behind_sign, first_way, first_fails, way_goes, way_ends, ways_done, ways_stuck, with_front, behind_way}
+use Rattle.ecd_reading.proofs.Loops.{with_front, goes, done}
+use Rattle.ecd_parse.proofs.Loops.{ends, sign_here, no_sign_here, behind_sign, first_way, first_fails, way_goes, way_ends, ways_done, ways_stuck, behind_way}
 use Rattle.ecd_parse.proofs.Parts.{made_gives, made_fails, operand_fails, operand_behind, operand_stops, tag_gives, tag_fails, tag_unclosed, fails_same, leads_none, leads_some, body_opens, body_unopened, behind_gives, behind_fails, entry_passed, entry_fails, group_gives, group_fails}
 use Rattle.ecd_parse.specs.Openings.{named_form, group_form, close_of, arguments, behind_opening}
 use Rattle.ecd_parse.specs.declared.opening.Opening.{Opening}
@@ -41,8 +42,8 @@ read_more-loop-next-preserved t c =
       within = c.in_ok-choice.ensures.within;
       after = omega (arith, c.in-Some.ensures.within, c.in_ok-choice.ensures.after, c.loop-next.invariant.after);
       count = omega (arith, c.in-Some.ensures.within, c.in_ok-choice.ensures.after, c.loop-next.invariant.count);
-      gives = ap (λ choices. with_front choices (many (begins (sign_of c.args.sign)) (behind (sign_of c.args.sign) one) (suc (suc (length (drop c.args.at ms))) - length c.push-in-Some.new.self) (drop c.in_ok-choice.end ms))) c.in_ok-push-2.ensures.ok
-          ∙ goes (begins (sign_of c.args.sign)) (behind (sign_of c.args.sign) one) fuel (suc (suc (length (drop c.args.at ms))) - length c.push-in-Some.new.self) c.loop-next.choices here (drop c.in_ok-choice.end ms) c.in_ok-choice.choice (more_listed c.args.sign one c.args.first (drop c.args.at ms))
+      gives = ap (λ choices. with_front choices (many (begins (sign_of c.args.sign)) (behind (sign_of c.args.sign) one) (taken []) (suc (suc (length (drop c.args.at ms))) - length c.push-in-Some.new.self) (drop c.in_ok-choice.end ms))) c.in_ok-push-2.ensures.ok
+          ∙ goes (taken []) (begins (sign_of c.args.sign)) (behind (sign_of c.args.sign) one) fuel (suc (suc (length (drop c.args.at ms))) - length c.push-in-Some.new.self) c.loop-next.choices here (drop c.in_ok-choice.end ms) c.in_ok-choice.choice (more_listed c.args.sign one c.args.first (drop c.args.at ms))
           less
           (sign_here ms c.args.sign here c.in-Some.next c.in-Some.ensures.found)
           (behind_sign ms c.args.sign one here c.in-Some.next c.in-Some.ensures.found ∙ c.in_ok-choice.ensures.gives)
@@ -55,7 +56,7 @@ read_more-returns-clause-gives t c =
     let one = choice_at c.args.levels in
     let here = drop c.loop-next.here ms in
     let fuel : ℕ = suc (suc (length (drop c.args.at ms))) - length c.loop-next.choices in
-    done (begins (sign_of c.args.sign)) (behind (sign_of c.args.sign) one) fuel (fuel - 1) c.loop-next.choices here (more_listed c.args.sign one c.args.first (drop c.args.at ms))
+    done (taken []) (begins (sign_of c.args.sign)) (behind (sign_of c.args.sign) one) fuel (fuel - 1) c.loop-next.choices here (more_listed c.args.sign one c.args.first (drop c.args.at ms))
     (omega (arith, length-drop c.args.at ms, length_marks c.args.tokens.now, c.loop-next.invariant.within, c.loop-next.invariant.count))
     (no_sign_here ms c.args.sign here c.in_default.ensures.found)
     c.loop-next.invariant.gives
@@ -87,8 +88,8 @@ read_entries-loop-alloc-preserved t c =
       within = c.behind_comma-here.ensures.within.0;
       after = omega (arith, c.behind_comma-here.ensures.within, c.in_ok-entry.ensures.after, c.loop-alloc.invariant.after);
       count = omega (arith, c.behind_comma-here.ensures.within, c.in_ok-entry.ensures.after, c.loop-alloc.invariant.count);
-      gives = ap (λ entries. with_front entries (many (goes_on c.args.close) one (suc (length (drop c.args.at ms)) - length c.push.new.self) (drop c.behind_comma-here.result ms))) c.in_ok-push.ensures.ok
-          ∙ goes (goes_on c.args.close) one fuel (suc (length (drop c.args.at ms)) - length c.push.new.self) c.loop-alloc.entries here (drop c.behind_comma-here.result ms) c.in_ok-entry.entry (each (goes_on c.args.close) one (drop c.args.at ms))
+      gives = ap (λ entries. with_front entries (many (goes_on c.args.close) one (taken []) (suc (length (drop c.args.at ms)) - length c.push.new.self) (drop c.behind_comma-here.result ms))) c.in_ok-push.ensures.ok
+          ∙ goes (taken []) (goes_on c.args.close) one fuel (suc (length (drop c.args.at ms)) - length c.push.new.self) c.loop-alloc.entries here (drop c.behind_comma-here.result ms) c.in_ok-entry.entry (each (goes_on c.args.close) one (drop c.args.at ms))
           less
           (sym c.is_in_way.ensures ∙ c.loop-alloc-test.true)
           (entry_passed (choice_at c.args.levels) here (drop c.in_ok-entry.behind ms) (drop c.behind_comma-here.result ms) c.in_ok-entry.entry c.in_ok-entry.ensures.gives (c.behind_comma-here.ensures.skips c.in_ok-entry.entry))
@@ -101,7 +102,7 @@ read_entries-returns-clause-gives t c =
     let one = entry_in_way (choice_at c.args.levels) in
     let here = drop c.loop-alloc.here ms in
     let fuel : ℕ = suc (length (drop c.args.at ms)) - length c.loop-alloc.entries in
-    done (goes_on c.args.close) one fuel (fuel - 1) c.loop-alloc.entries here (each (goes_on c.args.close) one (drop c.args.at ms))
+    done (taken []) (goes_on c.args.close) one fuel (fuel - 1) c.loop-alloc.entries here (each (goes_on c.args.close) one (drop c.args.at ms))
     (omega (arith, length-drop c.args.at ms, length_marks c.args.tokens.now, c.loop-alloc.invariant.within, c.loop-alloc.invariant.count))
     (sym c.is_in_way.ensures ∙ c.loop-alloc-test.false)
     c.loop-alloc.invariant.gives

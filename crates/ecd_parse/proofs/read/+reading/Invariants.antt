@@ -1,7 +1,8 @@
-use Rattle.std.proofs.Common.{◌≡◌, ◌+◌, ◌-◌, ◌*◌, ◌≤◌, suc, length, drop}
+use Rattle.std.proofs.Common.{◌≡◌, ◌+◌, ◌-◌, ◌*◌, ◌≤◌, suc, [], length, drop}
 use Rattle.ecd_syntax.specs.Marks.{marks, sign_of}
-use Rattle.ecd_syntax.specs.Reading.{begins, behind, many, each, more_listed, choice_at, goes_on, entry_in_way, all_ways}
-use Rattle.ecd_parse.proofs.Loops.{with_front, behind_way}
+use Rattle.ecd_syntax.specs.Reading.{begins, behind, many, taken, each, more_listed, choice_at, goes_on, entry_in_way, all_ways}
+use Rattle.ecd_reading.proofs.Loops.{with_front}
+use Rattle.ecd_parse.proofs.Loops.{behind_way}
 use Rattle.ecd_parse.proofs.read.+reading.Given as goal
 
 abbrev pub decreases-read_choice : goal.decreases-read_choice
@@ -37,7 +38,7 @@ invariant-read_more-loop-next l =
       within : l.here ≤ length l.tokens;
       after : l.at ≤ l.here;
       count : length l.choices + l.at ≤ l.here + 1;
-      gives : with_front l.choices (many (begins (sign_of l.sign)) (behind (sign_of l.sign) (choice_at l.levels)) (suc (suc (length (drop l.at (marks l.tokens)))) - length l.choices) (drop l.here (marks l.tokens))) ≡ more_listed l.sign (choice_at l.levels) l.fn.first (drop l.at (marks l.tokens));
+      gives : with_front l.choices (many (begins (sign_of l.sign)) (behind (sign_of l.sign) (choice_at l.levels)) (taken []) (suc (suc (length (drop l.at (marks l.tokens)))) - length l.choices) (drop l.here (marks l.tokens))) ≡ more_listed l.sign (choice_at l.levels) l.fn.first (drop l.at (marks l.tokens));
     }
 
 abbrev pub decreases-read_more-loop-next : goal.decreases-read_more-loop-next
@@ -49,7 +50,7 @@ invariant-read_entries-loop-alloc l =
       within : l.here ≤ length l.tokens;
       after : l.at ≤ l.here;
       count : length l.entries + l.at ≤ l.here;
-      gives : with_front l.entries (many (goes_on l.close) (entry_in_way (choice_at l.levels)) (suc (length (drop l.at (marks l.tokens))) - length l.entries) (drop l.here (marks l.tokens))) ≡ each (goes_on l.close) (entry_in_way (choice_at l.levels)) (drop l.at (marks l.tokens));
+      gives : with_front l.entries (many (goes_on l.close) (entry_in_way (choice_at l.levels)) (taken []) (suc (length (drop l.at (marks l.tokens))) - length l.entries) (drop l.here (marks l.tokens))) ≡ each (goes_on l.close) (entry_in_way (choice_at l.levels)) (drop l.at (marks l.tokens));
     }
 
 abbrev pub decreases-read_entries-loop-alloc : goal.decreases-read_entries-loop-alloc

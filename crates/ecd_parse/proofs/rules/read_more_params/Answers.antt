@@ -3,9 +3,10 @@ use Rattle.std.proofs.lemmas.List.{length-append, length-drop}
 use Rattle.std.proofs.lemmas.Result.{err_from_is_err_and}
 use Rattle.ecd_lex.specs.declared.token.Sign.TheVariants.{Comma}
 use Rattle.ecd_syntax.specs.Marks.{marks, sign_of, name_of}
-use Rattle.ecd_syntax.specs.Reading.{many, begins, behind, more_listed, token}
+use Rattle.ecd_syntax.specs.Reading.{many, taken, begins, behind, more_listed, token}
 use Rattle.ecd_parse.proofs.Tokens.{length_marks}
-use Rattle.ecd_parse.proofs.Loops.{goes, ends, done, sign_here, no_sign_here, behind_sign, with_front}
+use Rattle.ecd_reading.proofs.Loops.{with_front, goes, done}
+use Rattle.ecd_parse.proofs.Loops.{ends, sign_here, no_sign_here, behind_sign}
 use Rattle.ecd_parse.proofs.rules.read_more_params.Goals as goal
 
 pub returns-in_err-name-clause-gives : goal.returns-in_err-name-clause-gives
@@ -33,8 +34,8 @@ loop-next-preserved c =
       within = c.in_ok-name.ensures.within.0;
       after = omega (arith, c.in-Some.ensures.within, c.in_ok-name.ensures.within, c.loop-next.invariant.after);
       count = omega (arith, c.in-Some.ensures.within, c.in_ok-name.ensures.within, c.loop-next.invariant.count);
-      gives = ap (λ params. with_front params (many (begins (sign_of Comma)) (behind (sign_of Comma) one) (suc (suc (length (drop c.args.at ms))) - length c.push-in-Some.new.self) (drop c.in_ok-name.end ms))) c.in_ok-push-2.ensures.ok
-          ∙ goes (begins (sign_of Comma)) (behind (sign_of Comma) one) fuel (suc (suc (length (drop c.args.at ms))) - length c.push-in-Some.new.self) c.loop-next.params here (drop c.in_ok-name.end ms) c.in_ok-name.name (more_listed Comma one c.args.first (drop c.args.at ms))
+      gives = ap (λ params. with_front params (many (begins (sign_of Comma)) (behind (sign_of Comma) one) (taken []) (suc (suc (length (drop c.args.at ms))) - length c.push-in-Some.new.self) (drop c.in_ok-name.end ms))) c.in_ok-push-2.ensures.ok
+          ∙ goes (taken []) (begins (sign_of Comma)) (behind (sign_of Comma) one) fuel (suc (suc (length (drop c.args.at ms))) - length c.push-in-Some.new.self) c.loop-next.params here (drop c.in_ok-name.end ms) c.in_ok-name.name (more_listed Comma one c.args.first (drop c.args.at ms))
           less
           (sign_here ms Comma here c.in-Some.next c.in-Some.ensures.found)
           (behind_sign ms Comma one here c.in-Some.next c.in-Some.ensures.found ∙ c.in_ok-name.ensures.gives)
@@ -47,7 +48,7 @@ returns-clause-gives c =
     let one = token name_of in
     let here = drop c.loop-next.here ms in
     let fuel : ℕ = suc (suc (length (drop c.args.at ms))) - length c.loop-next.params in
-    done (begins (sign_of Comma)) (behind (sign_of Comma) one) fuel (fuel - 1) c.loop-next.params here (more_listed Comma one c.args.first (drop c.args.at ms))
+    done (taken []) (begins (sign_of Comma)) (behind (sign_of Comma) one) fuel (fuel - 1) c.loop-next.params here (more_listed Comma one c.args.first (drop c.args.at ms))
     (omega (arith, length-drop c.args.at ms, length_marks c.args.tokens.now, c.loop-next.invariant.within, c.loop-next.invariant.count))
     (no_sign_here ms Comma here c.in_default.ensures.found)
     c.loop-next.invariant.gives

@@ -4,7 +4,8 @@ use Rattle.std.proofs.lemmas.Result.{err_from_is_err_and}
 use Rattle.ecd_syntax.specs.Marks.{marks}
 use Rattle.ecd_syntax.specs.Reading.{taken, many, choice_at, is_more, rule_at, more_rules}
 use Rattle.ecd_parse.proofs.Tokens.{length_marks, more_here, none_here, rest_none}
-use Rattle.ecd_parse.proofs.Loops.{goes, ends, done, with_front}
+use Rattle.ecd_reading.proofs.Loops.{with_front, goes, done}
+use Rattle.ecd_parse.proofs.Loops.{ends}
 use Rattle.ecd_parse.proofs.rules.read_more_rules.Goals as goal
 
 pub returns-in_err-rule : goal.returns-in_err-rule
@@ -32,8 +33,8 @@ loop-here-preserved c =
       within = c.in_ok-rule.ensures.within;
       after = omega (arith, c.in_ok-rule.ensures.after, c.loop-here.invariant.after);
       count = omega (arith, c.in_ok-rule.ensures.after, c.loop-here.invariant.count);
-      gives = ap (λ rules. with_front rules (many is_more one (suc (suc (length (drop c.args.at ms))) - length c.push-in-loop-here.new.self) (drop c.in_ok-rule.end ms))) c.in_ok-push-2.ensures.ok
-          ∙ goes is_more one fuel (suc (suc (length (drop c.args.at ms))) - length c.push-in-loop-here.new.self) c.loop-here.rules here (drop c.in_ok-rule.end ms) c.in_ok-rule.rule (more_rules (choice_at c.args.levels) c.args.first (drop c.args.at ms))
+      gives = ap (λ rules. with_front rules (many is_more one (taken []) (suc (suc (length (drop c.args.at ms))) - length c.push-in-loop-here.new.self) (drop c.in_ok-rule.end ms))) c.in_ok-push-2.ensures.ok
+          ∙ goes (taken []) is_more one fuel (suc (suc (length (drop c.args.at ms))) - length c.push-in-loop-here.new.self) c.loop-here.rules here (drop c.in_ok-rule.end ms) c.in_ok-rule.rule (more_rules (choice_at c.args.levels) c.args.first (drop c.args.at ms))
           less
           (more_here c.args.tokens.now c.loop-here.here c.loop-here-test.true)
           c.in_ok-rule.ensures.gives
@@ -46,7 +47,7 @@ returns c =
     let one = rule_at (choice_at c.args.levels) in
     let here = drop c.loop-here.here ms in
     let fuel : ℕ = suc (suc (length (drop c.args.at ms))) - length c.loop-here.rules in
-    done is_more one fuel (fuel - 1) c.loop-here.rules here (more_rules (choice_at c.args.levels) c.args.first (drop c.args.at ms))
+    done (taken []) is_more one fuel (fuel - 1) c.loop-here.rules here (more_rules (choice_at c.args.levels) c.args.first (drop c.args.at ms))
     (omega (arith, length-drop c.args.at ms, length_marks c.args.tokens.now, c.loop-here.invariant.within, c.loop-here.invariant.count))
     (none_here c.args.tokens.now c.loop-here.here c.loop-here-test.false)
     c.loop-here.invariant.gives

@@ -1,0 +1,11 @@
+pub mod ArrayCounts
+pub mod Distinct
+pub mod MapCounts
+pub mod InBoxes
+pub mod Ends
+pub mod Missing
+pub mod Leaves
+pub mod ApartLaw
+pub mod Turning
+pub mod TurningMaps
+pub mod BothWays

@@ -1,0 +1,4 @@
+pub mod Tokens
+pub mod Scanned
+pub mod Standing
+pub mod Digits

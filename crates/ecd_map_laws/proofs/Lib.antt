@@ -1,0 +1,12 @@
+pub mod Taken
+pub mod Rules
+pub mod Tables
+pub mod FieldsApart
+pub mod Dealt
+pub mod Counts
+pub mod Choosing
+pub mod Existence
+pub mod Sizes
+pub mod Valid
+pub mod Entries
+pub mod Owners

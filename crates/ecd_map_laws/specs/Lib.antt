@@ -1,0 +1,6 @@
+pub mod Taken
+pub mod Tables
+pub mod Counts
+pub mod Existence
+pub mod Valid
+pub mod Entries
