@@ -187,8 +187,8 @@ fn calls_add_up_and_deep_ones_want_memory(rt: HostRuntime) -> Result<(), Fail> {
         (0, None, Ok(8)),
         (2, Some(7), Ok(10)),
         (2, Some(6), spent(6)),
-        (300, None, Ok(308)),
-        (4_999, None, Err(Halt::OutOfMemory { steps: 400 })),
+        (200, None, Ok(208)),
+        (4_999, None, Err(Halt::OutOfMemory { steps: 250 })),
     ] {
         let answer = answer_of(&mut machine, function, limit);
         assert_eq!(rt; answer, Some(want), "function {function}");

@@ -112,11 +112,11 @@ fn negations(alloc: Global, count: u32) -> Result<Expr, OutOfMemory>
 }
 
 #[test]
-fn expressions_beyond_four_hundred_levels_are_too_deep(rt: HostRuntime) -> Result<(), Fail> {
+fn expressions_beyond_the_most_levels_are_too_deep(rt: HostRuntime) -> Result<(), Fail> {
     let alloc = rt.alloc();
-    let deep = fault_of(alloc, declare(alloc, b"n", negations(alloc, 400)?)?, done())?;
+    let deep = fault_of(alloc, declare(alloc, b"n", negations(alloc, 250)?)?, done())?;
     assert!(rt; deep == Some(CFault::OutOfMemory));
-    let flat = fault_of(alloc, declare(alloc, b"n", negations(alloc, 399)?)?, done())?;
+    let flat = fault_of(alloc, declare(alloc, b"n", negations(alloc, 249)?)?, done())?;
     assert!(rt;
         flat == Some(CFault::Rule {
             rule: 2,
@@ -139,11 +139,11 @@ fn nested(alloc: Global, count: u32) -> Result<Stmt, OutOfMemory>
 }
 
 #[test]
-fn statements_beyond_four_hundred_levels_are_too_deep(rt: HostRuntime) -> Result<(), Fail> {
+fn statements_beyond_the_most_levels_are_too_deep(rt: HostRuntime) -> Result<(), Fail> {
     let alloc = rt.alloc();
-    let deep = fault_of(alloc, nested(alloc, 400)?, done())?;
+    let deep = fault_of(alloc, nested(alloc, 250)?, done())?;
     assert!(rt; deep == Some(CFault::OutOfMemory));
-    let flat = fault_of(alloc, nested(alloc, 399)?, done())?;
+    let flat = fault_of(alloc, nested(alloc, 249)?, done())?;
     assert!(rt;
         flat == Some(CFault::Rule {
             rule: 6,

@@ -208,7 +208,7 @@ fn a_broken_rule_is_named_with_its_place(rt: HostRuntime) -> Result<(), Fail> {
 
 #[test]
 fn what_stands_too_deep_ends_the_memory_of_the_stack(rt: HostRuntime) -> Result<(), Fail> {
-    for (count, fault) in [(300, None), (5000, Some(CFault::OutOfMemory))] {
+    for (count, fault) in [(200, None), (5000, Some(CFault::OutOfMemory))] {
         let choices = nested(
             rt.alloc(),
             "",

@@ -47,14 +47,14 @@ fn nested(
 }
 
 #[test]
-fn arguments_more_than_four_hundred_deep_are_want_of_memory(rt: HostRuntime) -> Result<(), Fail> {
+fn arguments_deeper_than_the_most_levels_are_want_of_memory(rt: HostRuntime) -> Result<(), Fail> {
     let wants = Status::OutOfMemory;
     // The innermost name is a level too.
     for (count, middle, status, line) in [
-        (399, "int", Status::NotBuilt, "not built\n"),
-        (399, "c", Status::Schema, "schema 1:803 byte 802 rule N2\n"),
-        (400, "int", wants, "out of memory\n"),
-        (400, "c", wants, "out of memory\n"),
+        (249, "int", Status::NotBuilt, "not built\n"),
+        (249, "c", Status::Schema, "schema 1:503 byte 502 rule N2\n"),
+        (250, "int", wants, "out of memory\n"),
+        (250, "c", wants, "out of memory\n"),
     ] {
         let parts = ("b<", middle, ">");
         let schema = nested(rt.alloc(), "a = ", count, parts, "\nb<t> = [t]\n")?;
@@ -67,15 +67,15 @@ fn arguments_more_than_four_hundred_deep_are_want_of_memory(rt: HostRuntime) -> 
 }
 
 #[test]
-fn statements_and_expressions_more_than_four_hundred_deep_are_want_of_memory(
+fn statements_and_expressions_deeper_than_the_most_levels_are_want_of_memory(
     rt: HostRuntime,
 ) -> Result<(), Fail> {
     let sum = ("(0ull + ", "0ull", ")");
     let choice = ("if (n < len) { ", "", "} else { }\n");
     // The sums stand in a statement and around a number, the choices around a test of a name: two levels more.
     for (count, status, line) in [
-        (398, Status::Done, ""),
-        (399, Status::OutOfMemory, "out of memory\n"),
+        (248, Status::Done, ""),
+        (249, Status::OutOfMemory, "out of memory\n"),
     ] {
         let sums = nested(rt.alloc(), "uint64_t n = ", count, sum, ";")?;
         let choices = nested(rt.alloc(), "uint64_t n = 0ull;\n", count, choice, "")?;

@@ -8,7 +8,7 @@ pub struct OutOfMemory;
 
 /// The most levels of a text or a tree of others that are walked by recursion where nothing else bounds them: behind them
 /// the stack counts as used up, and the answer is `OutOfMemory`.
-pub const MOST_LEVELS: u32 = 400;
+pub const MOST_LEVELS: u32 = 250;
 
 impl From<AllocError> for OutOfMemory {
     fn from(_refused: AllocError) -> OutOfMemory {

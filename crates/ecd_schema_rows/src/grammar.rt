@@ -371,10 +371,10 @@ fn the_forty_ninth_bracket_is_one_too_many(rt: HostRuntime) -> Result<(), Fail> 
 }
 
 #[test]
-fn arguments_end_the_memory_of_the_stack_behind_four_hundred_levels(
+fn arguments_end_the_memory_of_the_stack_behind_the_most_levels(
     rt: HostRuntime,
 ) -> Result<(), Fail> {
-    for (count, fault) in [(399, None), (400, Some(ParseFault::OutOfMemory))] {
+    for (count, fault) in [(249, None), (250, Some(ParseFault::OutOfMemory))] {
         let tokens = nested(rt.alloc(), count, "b<", "c", ">")?;
         assert_eq!(rt; parse(rt.alloc(), &tokens, 9999).err(), fault, "{count}");
     }

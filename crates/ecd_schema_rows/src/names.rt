@@ -347,7 +347,7 @@ fn with_arguments_inside(alloc: Global, levels: u32) -> Result<Vec<u8>, Fail> {
 fn many_parameters_and_deep_arguments_are_resolved(rt: HostRuntime) -> Result<(), Fail> {
     let texts = [
         with_parameters(rt.alloc(), 2000)?,
-        with_arguments_inside(rt.alloc(), 399)?,
+        with_arguments_inside(rt.alloc(), 249)?,
     ];
     for text in texts.iter() {
         let text = std::str::from_utf8(text).ok().ok_or("no text")?;

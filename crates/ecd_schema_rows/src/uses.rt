@@ -256,10 +256,10 @@ fn adding(alloc: Global, body: Entry) -> Result<Rule, OutOfMemory> {
 }
 
 #[test]
-fn arguments_end_the_memory_of_the_stack_behind_four_hundred_levels(
+fn arguments_end_the_memory_of_the_stack_behind_the_most_levels(
     rt: HostRuntime,
 ) -> Result<(), Fail> {
-    for (levels, want) in [(399, Some(400)), (400, None), (1500, None)] {
+    for (levels, want) in [(249, Some(250)), (250, None), (1500, None)] {
         let rule = adding(rt.alloc(), nested(rt.alloc(), levels)?)?;
         let count = sites(rt.alloc(), &rule).ok().map(|found| found.len());
         assert_eq!(rt; count, want, "{levels}");
@@ -268,11 +268,11 @@ fn arguments_end_the_memory_of_the_stack_behind_four_hundred_levels(
 }
 
 #[test]
-fn parentheses_end_the_memory_of_the_stack_behind_four_hundred_levels(
+fn parentheses_end_the_memory_of_the_stack_behind_the_most_levels(
     rt: HostRuntime,
 ) -> Result<(), Fail> {
-    // The name is a choice itself, so 399 parentheses around it make 400 levels.
-    for (parentheses, is_taken) in [(398, true), (399, true), (400, false), (1500, false)] {
+    // The name is a choice itself, so 249 parentheses around it make 250 levels.
+    for (parentheses, is_taken) in [(248, true), (249, true), (250, false), (1500, false)] {
         let rule = adding(rt.alloc(), in_parentheses(rt.alloc(), parentheses)?)?;
         let is_named = matches!(lead(rt.alloc(), &rule.body), Ok(Lead::Named(_)));
         assert_eq!(rt; is_named, is_taken, "{parentheses}");

@@ -9,12 +9,12 @@ returns c =
     let bracket = c.args.bracket in
     let front = take (bracket + 1) tokens in
     elim c.match-read_rules.branch [
-      | in-Ok w ↦ rw (w.result-is, w.too_nested.ensures) (front_read 400 bracket tokens c.requires.within c.requires.before c.requires.opens w.in-Ok.field-0 front _ refl w.in-Ok.ensures refl)
+      | in-Ok w ↦ rw (w.result-is, w.too_nested.ensures) (front_read 250 bracket tokens c.requires.within c.requires.before c.requires.opens w.in-Ok.field-0 front _ refl w.in-Ok.ensures refl)
       | in-Err-Unexpected+then-at-bracket w ↦
           let stuck_there = rw w.in-Err-Unexpected.field-0-is at w.in-Err-Unexpected.ensures in
-          rw w.result-is (front_stuck 400 bracket tokens c.requires.within c.requires.before c.requires.opens w.in-Err-Unexpected.at c.args.end w.place_or.result front refl w.if-at-bracket.true stuck_there w.place_or.ensures)
+          rw w.result-is (front_stuck 250 bracket tokens c.requires.within c.requires.before c.requires.opens w.in-Err-Unexpected.at c.args.end w.place_or.result front refl w.if-at-bracket.true stuck_there w.place_or.ensures)
       | in-Err-Unexpected+else-at-bracket w ↦
           let stuck_there = rw w.in-Err-Unexpected.field-0-is at w.in-Err-Unexpected.ensures in
-          rw (w.result-is, w.too_nested-else-at-bracket.ensures) (front_ends 400 bracket tokens c.requires.within c.requires.before c.requires.opens w.in-Err-Unexpected.at front _ refl w.if-at-bracket.false stuck_there refl)
+          rw (w.result-is, w.too_nested-else-at-bracket.ensures) (front_ends 250 bracket tokens c.requires.within c.requires.before c.requires.opens w.in-Err-Unexpected.at front _ refl w.if-at-bracket.false stuck_there refl)
       | in-Err-OutOfMemory w ↦ rw w.result-is tt
     ]
