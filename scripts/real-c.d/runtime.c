@@ -1,8 +1,15 @@
-/* The fixed functions, over byte strings whose answers are known. Each string stands in memory of its own length, so that a sanitizer sees a read or a write outside. */
+/* The fixed functions, over byte strings whose answers are known: those for the bytewise order of keys, or for the length-first one where LENGTH_FIRST is defined. Each string stands in memory of its own length, so that a sanitizer sees a read or a write outside. */
 #include <stdint.h>
 #include <stdio.h>
 #include <stdlib.h>
 #include <string.h>
+
+/* An answer that the order of keys decides. */
+#ifdef LENGTH_FIRST
+#define IN_ORDER(bytewise, length_first) (length_first)
+#else
+#define IN_ORDER(bytewise, length_first) (bytewise)
+#endif
 
 uint64_t head_end(const uint8_t *buf, uint64_t len, uint64_t at);
 uint64_t head_argument(const uint8_t *buf, uint64_t at);
@@ -144,7 +151,8 @@ static const struct order_row orders[] = {
   {"\x01\x02", 2, "\x01", 1, 2},
   {"\x01", 1, "\x01\x02", 2, 0},
   {"\x01\x02\x03", 3, "\x01\x02\x04", 3, 0},
-  {"\x02", 1, "\x01\xff\xff", 3, 2},
+  {"\x02", 1, "\x01\xff\xff", 3, IN_ORDER(2, 0)},
+  {"\x20", 1, "\x18\x64", 2, IN_ORDER(2, 0)},
   {"\xff\x00", 2, "\xff\x00", 2, 1},
 };
 
@@ -297,7 +305,7 @@ static const struct item_row items[] = {
   ITEM("\xa2\x01\x00\x01\x00", 5, 0, 0, 0, 0),
   ITEM("\xa2\x01\x00\x18\x64\x00", 6, 0, 6, 6, 6),
   ITEM("\xa2\x18\x64\x00\x01\x00", 6, 0, 0, 0, 0),
-  ITEM("\xa2\x20\x00\x18\x64\x00", 6, 0, 0, 0, 0),
+  ITEM("\xa2\x20\x00\x18\x64\x00", 6, 0, IN_ORDER(0, 6), IN_ORDER(0, 6), IN_ORDER(0, 6)),
   ITEM("\xa2\x61\x61\x01\x61\x62\x82\x02\x03", 9, 0, 0, 9, 9),
   ITEM("\xa2\x61\x62\x01\x61\x61\x02", 7, 0, 0, 0, 0),
   ITEM("\xa2\x61\x61\x00\x62\x61\x61\x00", 8, 0, 8, 8, 8),

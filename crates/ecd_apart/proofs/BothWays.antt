@@ -89,7 +89,7 @@ mutual
   turn_first (more_of-Part part rest) (more_of-Part (Many' by lo hi s body) others) a = absurd a
   turn_first (more_of-Part part rest) (more_of-Part (Alt' by s ways) others) a = absurd a
 
-  turn_last : {n : _} (row : Row_of-Part n) (others : List Kind) → LastApart row others → Place others (fixed_suffix row)
+  pub turn_last : {n : _} (row : Row_of-Part n) (others : List Kind) → LastApart row others → Place others (fixed_suffix row)
   turn_last end_of-Part others a = absurd a
   turn_last (more_of-Part (One' at kind) rest) others (inl a) =
       let x = at_some (Apart kind) others (part_count rest) a.1 in
@@ -101,7 +101,7 @@ mutual
 
   -- ---- maps
 
-  turn_needed : {n : _} (row : Row_of-MapEntry n) (leaf : Kind) → NeededMisses row leaf → HasNeeded (MissedBy leaf) row
+  pub turn_needed : {n : _} (row : Row_of-MapEntry n) (leaf : Kind) → NeededMisses row leaf → HasNeeded (MissedBy leaf) row
   turn_needed end_of-MapEntry leaf a = a
   turn_needed (more_of-MapEntry (Field' at _ key cut lo _ kind) rest) leaf (inl a) = inl (a.0, missed_by key kind (λ x b. turn key x b) (λ x b. turn kind x b) leaf a.1)
   turn_needed (more_of-MapEntry (Field' at _ key cut lo _ kind) rest) leaf (inr a) = inr (turn_needed rest leaf a)
@@ -110,7 +110,7 @@ mutual
   turn_needed (more_of-MapEntry (Table' at lo hi _ key _ kind) rest) leaf (inl a) = absurd a
   turn_needed (more_of-MapEntry (Table' at lo hi _ key _ kind) rest) leaf (inr a) = turn_needed rest leaf a
 
-  turn_missed : {n : _} (row : Row_of-MapEntry n) {l : Count} (whole : Row_of-MapEntry l) (key kind : Kind) → AreMissed row key kind (HasCut whole key) → EntriesMiss key (Apart key) (Apart kind) (HasCut whole key) row
+  pub turn_missed : {n : _} (row : Row_of-MapEntry n) {l : Count} (whole : Row_of-MapEntry l) (key kind : Kind) → AreMissed row key kind (HasCut whole key) → EntriesMiss key (Apart key) (Apart kind) (HasCut whole key) row
   turn_missed end_of-MapEntry whole key kind a = tt
   turn_missed (more_of-MapEntry (Field' at _ own cut lo _ under) rest) whole key kind a = (λ same. turn under kind (a.0 same), turn_missed rest whole key kind a.1)
   turn_missed (more_of-MapEntry (m.Pick pick) rest) whole key kind a = (turn_pick pick key kind a.0, turn_missed rest whole key kind a.1)

@@ -139,14 +139,14 @@ module _ (key kind : Kind) (turn_key : (other : Kind) → Apart key other → Ap
   missed_by (Map' s others) a = entries_turned (HasCut others key) others a
   missed_by leaf a = absurd a
 
-none_needed : {n : _} (row : Row_of-MapEntry n) → HasNeeded (λ key kind. ⊥) row → ⊥
+pub none_needed : {n : _} (row : Row_of-MapEntry n) → HasNeeded (λ key kind. ⊥) row → ⊥
 none_needed end_of-MapEntry a = a
 none_needed (more_of-MapEntry (Field' at _ own cut lo _ under) rest) (inl a) = a.1
 none_needed (more_of-MapEntry (Field' at _ own cut lo _ under) rest) (inr a) = none_needed rest a
 none_needed (more_of-MapEntry (m.Pick pick) rest) a = none_needed rest a
 none_needed (more_of-MapEntry (Table' at lo hi _ own _ under) rest) a = none_needed rest a
 
-needed_misses : (P : Kind → Kind → Type 0) (other : Kind) → ((key kind : Kind) → P key kind → MapMisses key (Apart key) (Apart kind) other) → {n : _} (row : Row_of-MapEntry n) → HasNeeded P row → NeededMisses row other
+pub needed_misses : (P : Kind → Kind → Type 0) (other : Kind) → ((key kind : Kind) → P key kind → MapMisses key (Apart key) (Apart kind) other) → {n : _} (row : Row_of-MapEntry n) → HasNeeded P row → NeededMisses row other
 unfolding Apart
 needed_misses P other f end_of-MapEntry a = a
 needed_misses P other f (more_of-MapEntry (Field' at _ own cut lo _ under) rest) (inl a) = inl (a.0, f own under a.1)

@@ -1,6 +1,7 @@
 //! Times the reading, writing and checking of a large data item (RFC 8949), and the reading of large schemas (RFC 8610): the
 //! word after the program's name says which.
-//! The word `runtime` prints the fixed functions of emitted files. Without a word it does nothing.
+//! The word `runtime` prints the fixed functions of emitted files, with `,length-first` behind it those for that order of keys.
+//! Without a word it does nothing.
 #![tactic(auto)]
 
 mod measure;
@@ -8,6 +9,7 @@ mod runtime;
 mod sample;
 
 use anyhow::Result;
+use ecd_keyorder::Order;
 use measure::measure;
 use runtime::print_runtime;
 use std::env;
@@ -17,7 +19,8 @@ fn main(rt: HostRuntime) -> Result<()> {
     match words.next() {
         None => Ok(()),
         Some(word) => match word.as_str() {
-            "runtime" => print_runtime(rt.alloc(), &rt),
+            "runtime" => print_runtime(rt.alloc(), Order::Bytewise, &rt),
+            "runtime,length-first" => print_runtime(rt.alloc(), Order::LengthFirst, &rt),
             other => measure(rt.alloc(), &rt, other),
         },
     }

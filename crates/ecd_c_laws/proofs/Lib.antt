@@ -1,3 +1,3 @@
 mod Cutting
 mod Ending
-mod Reading
+pub mod Reading

@@ -3,6 +3,7 @@
 use crate::calls::{call, is_answered, with_bytes, with_file};
 use ecd_commands::Status;
 use ecd_compile::compile;
+use ecd_keyorder::Order;
 use std::test::Fail;
 
 #[test]
@@ -14,6 +15,15 @@ fn words_are_in_the_table_or_the_usage_is_told(rt: HostRuntime) -> Result<(), Fa
         "check s x 33",
         "compile s x 00",
         "compile s x +1",
+        "check s x 1,shortest",
+        "check s x 1,",
+        "check s x ,length-first",
+        "check s x 1,length-first,",
+        "check s x 1,length-firs",
+        "check s x 1,Length-first",
+        "check s x 01,length-first",
+        "check s x 33,length-first",
+        "check s x 1,length-first,length-first",
         "compile s x 0 0",
         "Check s x 0",
         "read s x 0",
@@ -28,7 +38,13 @@ fn words_are_in_the_table_or_the_usage_is_told(rt: HostRuntime) -> Result<(), Fa
         let told = is_answered(rt.alloc(), words, "x = 5", Status::Usage, usage)?;
         assert!(rt; told, "{words}");
     }
-    for words in ["write s x 32 s 16777216", "copy s x 0 s 0", "sample 20000"] {
+    for words in [
+        "write s x 32 s 16777216",
+        "write s x 0,length-first s 0",
+        "copy s x 0 s 0",
+        "copy s x 32,length-first s 0",
+        "sample 20000",
+    ] {
         let told = is_answered(rt.alloc(), words, "x = 5", not_built, "not built\n")?;
         assert!(rt; told, "{words}");
     }
@@ -43,6 +59,8 @@ fn schemas_are_taken_or_refused_with_rule_and_place(rt: HostRuntime) -> Result<(
         ("compile s x 0", "x = 5", done, ""),
         ("check s x 32", "x = 5\n", done, ""),
         ("check s x 0", "x = 0x05 ; five", done, ""),
+        ("check s x 1,length-first", "x = 5", done, ""),
+        ("compile s x 32,length-first", "x = 5", done, ""),
         ("compile s x 0", "x = 24", not_built, "not built\n"),
         ("check s y 0", "x = 5", not_built, "not built\n"),
         ("compile t x 0", "x = 5", Status::ReadFault, "read fault\n"),
@@ -130,7 +148,7 @@ fn broken_rules_of_names_are_told_with_rule_and_place(rt: HostRuntime) -> Result
 #[test]
 fn the_text_of_the_compiler_is_written(rt: HostRuntime) -> Result<(), Fail> {
     let answer = call(rt.alloc(), "compile s x 0", with_file("x = 5"))?;
-    let compiled = compile(rt.alloc(), b"x = 5", "x", 0)?;
+    let compiled = compile(rt.alloc(), b"x = 5", "x", 0, Order::Bytewise)?;
     assert_eq!(rt; answer.out.as_slice(), compiled.text.as_slice());
     let answer = call(rt.alloc(), "check s x 0", with_file("x = 5"))?;
     assert_eq!(rt; answer.out.as_slice(), b"ok\n".as_slice());

@@ -1,4 +1,5 @@
 pub mod Decimals
+pub mod Depths
 pub mod Tables
 pub mod Reading
 pub mod Calling

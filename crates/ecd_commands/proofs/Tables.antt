@@ -2,7 +2,8 @@
 use Rattle.std.proofs.Common.{◌≡◌, ℕ, ◌+◌, ◌*◌, ◌<◌, ◌≤◌, ◌^◌, List, [], ◌∷◌, ◌++◌, length, get_or, arith, ap, sym, ◌∙◌}
 use Rattle.std.specs.Prelude.{decimal, codes}
 use Rattle.std.proofs.lemmas.Fmt.{decimal_injective}
-use Rattle.ecd_commands.specs.Asked.{Asked, SchemaAsked, check, compile, read, write, copy, run, sample, IsInRange, Asks, AskOneThing, schema_words, words_behind, command_of}
+use Rattle.ecd_commands.proofs.Depths.{depth_same}
+use Rattle.ecd_commands.specs.Asked.{Asked, SchemaAsked, check, compile, read, write, copy, run, sample, IsInRange, Asks, AskOneThing, depth_word, schema_words, words_behind, command_of}
 
 -- the first three letters of the first word, as one number; they tell the commands apart
 abbrev first_letters : List (List ℕ) → ℕ
@@ -12,33 +13,33 @@ first_letters _ = 0
 number_same : (a b : ℕ) → a < 2 ^ 64 → b < 2 ^ 64 → decimal a ≡ decimal b → a ≡ b
 number_same a b p q e = decimal_injective a b (omega (arith, p)) (omega (arith, q)) e
 
-schema_same : (s t : SchemaAsked) → s.depth ≤ 32 → t.depth ≤ 32 → s.file ≡ t.file → s.root ≡ t.root → decimal s.depth ≡ decimal t.depth → s ≡ t
+schema_same : (s t : SchemaAsked) → s.depth ≤ 32 → t.depth ≤ 32 → s.file ≡ t.file → s.root ≡ t.root → depth_word s.depth s.order ≡ depth_word t.depth t.order → s ≡ t
 schema_same s t p q file root depth =
-    let same : s.depth ≡ t.depth = number_same s.depth t.depth (omega (arith, p)) (omega (arith, q)) depth in
-    λ i. record { file = file i; root = root i; depth = same i }
+    let same = depth_same s.depth t.depth s.order t.order p q depth in
+    λ i. record { file = file i; root = root i; depth = same.0 i; order = same.1 i }
 
 one_asked : (one other : Asked) → command_of one ∷ words_behind one ≡ command_of other ∷ words_behind other → IsInRange one → IsInRange other → one ≡ other
 one_asked (check s) (check t) e p q =
     let files : s.file ≡ t.file = cc in
     let roots : s.root ≡ t.root = cc in
-    let depths : decimal s.depth ≡ decimal t.depth = cc in
+    let depths : depth_word s.depth s.order ≡ depth_word t.depth t.order = cc in
     ap check (schema_same s t p q files roots depths)
 one_asked (compile s) (compile t) e p q =
     let files : s.file ≡ t.file = cc in
     let roots : s.root ≡ t.root = cc in
-    let depths : decimal s.depth ≡ decimal t.depth = cc in
+    let depths : depth_word s.depth s.order ≡ depth_word t.depth t.order = cc in
     ap compile (schema_same s t p q files roots depths)
 one_asked (read s d) (read t f) e p q =
     let files : s.file ≡ t.file = cc in
     let roots : s.root ≡ t.root = cc in
-    let depths : decimal s.depth ≡ decimal t.depth = cc in
+    let depths : depth_word s.depth s.order ≡ depth_word t.depth t.order = cc in
     let file : d ≡ f = cc in
     let same = schema_same s t p q files roots depths in
     λ i. read (same i) (file i)
 one_asked (write s v m) (write t w n) e p q =
     let files : s.file ≡ t.file = cc in
     let roots : s.root ≡ t.root = cc in
-    let depths : decimal s.depth ≡ decimal t.depth = cc in
+    let depths : depth_word s.depth s.order ≡ depth_word t.depth t.order = cc in
     let value : v ≡ w = cc in
     let same = schema_same s t p.0 q.0 files roots depths in
     let digits : decimal m ≡ decimal n = cc in
@@ -47,7 +48,7 @@ one_asked (write s v m) (write t w n) e p q =
 one_asked (copy s v m) (copy t w n) e p q =
     let files : s.file ≡ t.file = cc in
     let roots : s.root ≡ t.root = cc in
-    let depths : decimal s.depth ≡ decimal t.depth = cc in
+    let depths : depth_word s.depth s.order ≡ depth_word t.depth t.order = cc in
     let file : v ≡ w = cc in
     let same = schema_same s t p.0 q.0 files roots depths in
     let digits : decimal m ≡ decimal n = cc in

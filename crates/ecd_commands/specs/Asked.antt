@@ -1,15 +1,18 @@
 -- The table of commands: what words can ask for, and the words that ask for it.
 use Rattle.std.specs.Prelude.{◌≡◌, ℕ, ◌≤◌, List, [], ◌∷◌, ◌++◌, map, codes, decimal, string_bytes, String}
 use Rattle.std.specs.declared.alloc.Global.{Global}
+use Rattle.ecd_keyorder.specs.declared.Order.{Order}
+use Rattle.ecd_keyorder.specs.declared.Order.TheVariants.{Bytewise, LengthFirst}
 
--- a schema: the name of its file, the name of its root, and how many levels items under `any` may have
+-- a schema: the name of its file, the name of its root, how many levels items under `any` may have, and the order in which the keys of maps ascend
 pub record SchemaAsked : Type 0 where
   pub file : List ℕ
   pub root : List ℕ
   pub depth : ℕ
+  pub order : Order
 
-abbrev pub schema_of : List ℕ → List ℕ → ℕ → SchemaAsked
-schema_of file root depth = record { file = file; root = root; depth = depth }
+abbrev pub schema_of : List ℕ → List ℕ → ℕ → Order → SchemaAsked
+schema_of file root depth order = record { file = file; root = root; depth = depth; order = order }
 
 -- what words ask for, by the words of the table: files are said by their names
 pub data Asked : Type 0 where
@@ -21,9 +24,18 @@ pub data Asked : Type 0 where
   run : (c_file function data_file : List ℕ) → (steps : ℕ) → Asked
   sample : (entries : ℕ) → Asked
 
+-- digits, and behind them what says that the order is not the bytewise one
+abbrev pub with_order : List ℕ → Order → List ℕ
+with_order digits Bytewise = digits
+with_order digits LengthFirst = digits ++ codes ",length-first"
+
+-- the word of a depth and an order
+abbrev pub depth_word : ℕ → Order → List ℕ
+depth_word depth order = with_order (decimal depth) order
+
 -- the three words of a schema
 abbrev pub schema_words : SchemaAsked → List (List ℕ)
-schema_words s = s.file ∷ s.root ∷ decimal s.depth ∷ []
+schema_words s = s.file ∷ s.root ∷ depth_word s.depth s.order ∷ []
 
 -- the words behind the first: a number is written in decimal digits without a leading zero
 abbrev pub words_behind : Asked → List (List ℕ)

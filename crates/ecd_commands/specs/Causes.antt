@@ -35,7 +35,7 @@ outcome_of_refusal schema refusals.OutOfMemory = OutOfMemory
 
 -- what is asked of these bytes of a schema
 abbrev pub request_for : List ℕ → SchemaAsked → Request
-request_for schema s = request schema s.root s.depth
+request_for schema s = request schema s.root s.depth s.order
 
 -- the schema is refused for this
 pub record IsRefused (q : Request) (outcome : Outcome) : Type 0 where

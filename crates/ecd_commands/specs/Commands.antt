@@ -5,7 +5,7 @@ use Rattle.ecd_commands.specs.declared.words.Command.{Command}
 use Rattle.ecd_commands.specs.declared.words.Command.TheVariants as commands
 
 abbrev pub schema_asked : SchemaWords → SchemaAsked
-schema_asked words = record { file = words.file.now; root = words.root.now; depth = words.depth }
+schema_asked words = record { file = words.file.now; root = words.root.now; depth = words.depth; order = words.order }
 
 abbrev pub asked_by : Command → Asked
 asked_by (commands.Check schema) = check (schema_asked schema)

@@ -53,10 +53,10 @@ pub fn compile_schema(
 ) -> Result<Compiled, Answer<'static>>
     requires short { length schema.now ≤ MOST_BYTES }
     requires shallow { words.now.depth ≤ 32 }
-    ensures compiled { IfOk result (λ c. IsCompiled (request schema.now words.now.root.now words.now.depth) c.text c.program) }
-    ensures refused { IfErr result (λ answer. IsRefusedOrWants (request schema.now words.now.root.now words.now.depth) (outcome_of answer)) }
+    ensures compiled { IfOk result (λ c. IsCompiled (request schema.now words.now.root.now words.now.depth words.now.order) c.text c.program) }
+    ensures refused { IfErr result (λ answer. IsRefusedOrWants (request schema.now words.now.root.now words.now.depth words.now.order) (outcome_of answer)) }
 {
-    match compile(alloc, schema, words.root, words.depth) {
+    match compile(alloc, schema, words.root, words.depth, words.order) {
         Ok(compiled) => Ok(compiled),
         Err(refusal) => Err(refused(schema, refusal)),
     }

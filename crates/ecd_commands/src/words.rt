@@ -1,9 +1,12 @@
 //! The words of the command line.
 
-ghost use Rattle.std.specs.Prelude.{◌≡◌, ◌≤◌, ℕ, ◌∷◌, codes, decimal, IsTrue, ◌↔◌, IfSome, IfNone};
-ghost use Rattle.ecd_commands.specs.Asked.{Asks, AskNothing, bytes_of, schema_of as asked_schema};
+ghost use Rattle.std.specs.Prelude.{◌≡◌, ◌≢◌, ◌≤◌, ℕ, List, ◌∷◌, ◌++◌, codes, decimal, IsTrue, ◌↔◌, IfSome, IfNone};
+ghost use Rattle.ecd_keyorder.specs.declared.Order.{Order as AnOrder};
+ghost use Rattle.ecd_keyorder.specs.declared.Order.TheVariants.{Bytewise};
+ghost use Rattle.ecd_commands.specs.Asked.{Asks, AskNothing, bytes_of, depth_word, with_order, schema_of as asked_schema};
 ghost use Rattle.ecd_commands.specs.Commands.{asked_by, schema_asked};
 
+use ecd_keyorder::Order;
 use itoa::Buffer;
 
 /// The most levels that items under `any` may have.
@@ -18,12 +21,14 @@ pub const MOST_STEPS: u64 = 9_223_372_036_854_775_807;
 /// The most entries of the sample.
 pub const MOST_ENTRIES: u64 = 20_000;
 
-/// The words of a schema: the name of its file, the name of its root, and how many levels items under `any` may have.
+/// The words of a schema: the name of its file, the name of its root, and how many levels items under `any` may have, with
+/// the order in which the keys of maps ascend.
 #[derive(Clone, Copy)]
 pub struct SchemaWords<'a> {
     pub file: &'a str,
     pub root: &'a str,
     pub depth: u8,
+    pub order: Order,
 }
 
 /// What the words ask for. Files are said by their names.
@@ -90,18 +95,31 @@ fn number_in(word: &str, least: u64, most: u64) -> Option<u64>
     Some(number)
 }
 
+/// The digits of a word, and the order that is said behind them: the bytewise one where none is.
+fn digits_and_order(word: &str) -> (&str, Order)
+    ensures parts { word.now ≡ with_order result.0.now result.1 }
+    ensures whole { result.1 ≡ Bytewise → (front : List ℕ) → word.now ≢ front ++ codes ",length-first" }
+{
+    match word.strip_suffix(",length-first") {
+        Some(digits) => (digits, Order::LengthFirst),
+        None => (word, Order::Bytewise),
+    }
+}
+
 /// The words of a schema.
 fn schema_words<'a>(file: &'a str, root: &'a str, depth: &str) -> Option<SchemaWords<'a>>
-    ensures found { IfSome result (λ schema. (schema_asked schema ≡ asked_schema file.now root.now schema.depth) × (depth.now ≡ decimal schema.depth) × (schema.depth ≤ 32)) }
-    ensures none { IfNone result ((levels : ℕ) → levels ≤ 32 → depth.now ≡ decimal levels → ⊥) }
+    ensures found { IfSome result (λ schema. (schema_asked schema ≡ asked_schema file.now root.now schema.depth schema.order) × (depth.now ≡ depth_word schema.depth schema.order) × (schema.depth ≤ 32)) }
+    ensures none { IfNone result ((levels : ℕ) (order : AnOrder) → levels ≤ 32 → depth.now ≡ depth_word levels order → ⊥) }
 {
-    let Some(depth) = number_in(depth, 0, MOST_DEPTH) else {
+    let (digits, order) = digits_and_order(depth);
+    let Some(depth) = number_in(digits, 0, MOST_DEPTH) else {
         return None;
     };
     Some(SchemaWords {
         file,
         root,
         depth: depth as u8,
+        order,
     })
 }
 

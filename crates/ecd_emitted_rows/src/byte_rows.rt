@@ -4,8 +4,10 @@ use crate::head_rows::{ask, machine};
 use ecd_cbuild::builder::{Builder, Valid};
 use ecd_ceval::{Arg, Block, BlockList, Machine};
 use ecd_fixed_bytes::{comparison, copier, head_writer, utf8_check};
+use ecd_keyorder::{Order, compare};
 use ecd_list::{ByteList, OutOfMemory};
 use std::alloc::Global;
+use std::cmp::Ordering;
 use std::test::Fail;
 
 /// `compare_bytes` of the bytes before a place and those from it on.
@@ -25,6 +27,13 @@ fn compared<'a>(machine: &mut Machine<'a>, middle: u64, length: u64) -> Option<u
     ask(machine, "compare_bytes", &args, limit)
 }
 
+/// The program that compares in an order.
+fn comparer(alloc: Global, order: Order) -> Result<Valid, OutOfMemory> {
+    let mut builder = Builder::new(alloc);
+    comparison(alloc, order, &mut builder)?;
+    Ok(builder.finish())
+}
+
 #[test]
 fn bytes_are_compared_from_the_left(rt: HostRuntime) -> Result<(), Fail> {
     let rows: [(&[u8], u64, u64); 11] = [
@@ -41,13 +50,66 @@ fn bytes_are_compared_from_the_left(rt: HostRuntime) -> Result<(), Fail> {
         (&[255, 0, 255, 0], 2, 1),
     ];
     let alloc = rt.alloc();
-    let mut builder = Builder::new(alloc);
-    comparison(alloc, &mut builder)?;
-    let valid = builder.finish();
+    let valid = comparer(alloc, Order::Bytewise)?;
     for (bytes, middle, order) in rows.iter() {
         let mut machine = machine(alloc, &valid, bytes)?;
         let length = bytes.len() as u64;
         assert_eq!(rt; compared(&mut machine, *middle, length), Some(*order));
+    }
+    Ok(())
+}
+
+#[test]
+fn shorter_bytes_are_less_in_the_length_first_order(rt: HostRuntime) -> Result<(), Fail> {
+    let rows: [(&[u8], u64, u64); 11] = [
+        (&[], 0, 1),
+        (&[0], 0, 0),
+        (&[0], 1, 2),
+        (&[7, 7], 1, 1),
+        (&[0x20, 0x18, 0x64], 1, 0),
+        (&[0x18, 0x64, 0x20], 2, 2),
+        (&[1, 2, 1, 3], 2, 0),
+        (&[1, 3, 1, 2], 2, 2),
+        (&[1, 2, 3, 1, 2, 3], 3, 1),
+        (&[9, 9, 0, 0, 0], 2, 0),
+        (&[0, 0, 0, 9, 9], 3, 2),
+    ];
+    let alloc = rt.alloc();
+    let valid = comparer(alloc, Order::LengthFirst)?;
+    for (bytes, middle, order) in rows.iter() {
+        let mut machine = machine(alloc, &valid, bytes)?;
+        let length = bytes.len() as u64;
+        assert_eq!(rt; compared(&mut machine, *middle, length), Some(*order));
+    }
+    Ok(())
+}
+
+/// What `compare_bytes` answers where the left bytes stand so to the right ones.
+fn order_number(order: Ordering) -> u64 {
+    match order {
+        Ordering::Less => 0,
+        Ordering::Equal => 1,
+        Ordering::Greater => 2,
+    }
+}
+
+#[test]
+fn random_bytes_are_compared_as_keys_are(rt: HostRuntime) -> Result<(), Fail> {
+    let alloc = rt.alloc();
+    let mut random: u64 = 1;
+    for order in [Order::Bytewise, Order::LengthFirst] {
+        let valid = comparer(alloc, order)?;
+        for _ in 0..100 {
+            random = random
+                .wrapping_mul(6_364_136_223_846_793_005)
+                .wrapping_add(1);
+            let middle = (random >> 60).min(8);
+            let bytes = ((random >> 4) & 0x0101_0101_0101_0101).to_be_bytes();
+            let (left, right) = bytes.split_at(middle as usize);
+            let wanted = order_number(compare(order, left, right));
+            let mut machine = machine(alloc, &valid, &bytes)?;
+            assert_eq!(rt; compared(&mut machine, middle, 8), Some(wanted));
+        }
     }
     Ok(())
 }
@@ -109,7 +171,7 @@ fn text_is_judged_as_std_judges_it(rt: HostRuntime) -> Result<(), Fail> {
 #[tactic(auto, unfolding(ecd_fixed_bytes::specs::Compare::compare_bytes, ecd_fixed_bytes::specs::HeadWriter::head_length, ecd_fixed_bytes::specs::HeadWriter::store_be16, ecd_fixed_bytes::specs::HeadWriter::store_be32, ecd_fixed_bytes::specs::HeadWriter::store_be64, ecd_fixed_bytes::specs::HeadWriter::put_head))]
 fn writers(alloc: Global) -> Result<Valid, OutOfMemory> {
     let mut builder = Builder::new(alloc);
-    comparison(alloc, &mut builder)?;
+    comparison(alloc, Order::Bytewise, &mut builder)?;
     head_writer(alloc, &mut builder)?;
     copier(alloc, &mut builder)?;
     Ok(builder.finish())

@@ -115,11 +115,11 @@ const ROWS: [&[u8]; 100] = [
     b"\xff",
 ];
 
-fn program(alloc: Global, depth: u8) -> Result<Valid, OutOfMemory>
+fn program(alloc: Global, depth: u8, order: Order) -> Result<Valid, OutOfMemory>
     requires { depth ≤ 32 }
 {
     let mut builder = Builder::new(alloc);
-    runtime(alloc, depth, &mut builder)?;
+    runtime(alloc, depth, order, &mut builder)?;
     Ok(builder.finish())
 }
 
@@ -176,10 +176,16 @@ fn item_end(
 }
 
 /// Whether `any_` of a depth and the reader of items find the same end at the front of some bytes, or none.
-fn agrees(alloc: Global, valid: &Valid, depth: u8, bytes: &[u8]) -> Result<bool, OutOfMemory>
+fn agrees(
+    alloc: Global,
+    valid: &Valid,
+    depth: u8,
+    order: Order,
+    bytes: &[u8],
+) -> Result<bool, OutOfMemory>
     requires { depth ≤ 32 }
 {
-    match read_item(alloc, Order::Bytewise, bytes, 0, depth) {
+    match read_item(alloc, order, bytes, 0, depth) {
         Ok((_, behind)) => {
             let behind = behind as u64;
             let found = any_end(alloc, valid, depth, bytes, 0, behind)?;
@@ -197,11 +203,16 @@ fn agrees(alloc: Global, valid: &Valid, depth: u8, bytes: &[u8]) -> Result<bool,
 #[test]
 fn items_end_where_the_reader_ends_them_at_each_depth(rt: HostRuntime) -> Result<(), Fail> {
     let alloc = rt.alloc();
-    for depth in [0, 1, 2, 32] {
-        assert!(rt; depth <= 32);
-        let valid = program(alloc, depth)?;
-        for bytes in ROWS.iter() {
-            assert!(rt; agrees(alloc, &valid, depth, bytes)?, "at depth {depth}");
+    for order in [Order::Bytewise, Order::LengthFirst] {
+        for depth in [0, 1, 2, 32] {
+            assert!(rt; depth <= 32);
+            let valid = program(alloc, depth, order)?;
+            for bytes in ROWS.iter() {
+                assert!(rt;
+                    agrees(alloc, &valid, depth, order, bytes)?,
+                    "at depth {depth}"
+                );
+            }
         }
     }
     Ok(())
@@ -210,11 +221,11 @@ fn items_end_where_the_reader_ends_them_at_each_depth(rt: HostRuntime) -> Result
 #[test]
 fn what_is_cut_off_ends_where_the_reader_ends_it(rt: HostRuntime) -> Result<(), Fail> {
     let alloc = rt.alloc();
-    let valid = program(alloc, 2)?;
+    let valid = program(alloc, 2, Order::Bytewise)?;
     for bytes in ROWS.iter() {
         for (length, _) in bytes.iter().enumerate() {
             assert!(rt;
-                agrees(alloc, &valid, 2, &bytes[..length])?,
+                agrees(alloc, &valid, 2, Order::Bytewise, &bytes[..length])?,
                 "{length} bytes"
             );
         }
@@ -225,10 +236,14 @@ fn what_is_cut_off_ends_where_the_reader_ends_it(rt: HostRuntime) -> Result<(), 
 #[test]
 fn a_program_has_the_functions_of_every_lower_depth(rt: HostRuntime) -> Result<(), Fail> {
     let alloc = rt.alloc();
-    let valid = program(alloc, 3)?;
+    let order = Order::LengthFirst;
+    let valid = program(alloc, 3, order)?;
     for depth in 0..4 {
         for bytes in ROWS.iter() {
-            assert!(rt; agrees(alloc, &valid, depth, bytes)?, "at depth {depth}");
+            assert!(rt;
+                agrees(alloc, &valid, depth, order, bytes)?,
+                "at depth {depth}"
+            );
         }
     }
     assert_eq!(rt; valid.function("any_4"), None);
@@ -238,7 +253,7 @@ fn a_program_has_the_functions_of_every_lower_depth(rt: HostRuntime) -> Result<(
 #[test]
 fn the_greatest_depth_is_thirty_two(rt: HostRuntime) -> Result<(), Fail> {
     let alloc = rt.alloc();
-    let valid = program(alloc, 32)?;
+    let valid = program(alloc, 32, Order::Bytewise)?;
     let mut nested = [0x81; 34];
     nested[33] = 0x80;
     assert_eq!(rt; any_end(alloc, &valid, 32, &nested, 2, 32)?, Some(34));
@@ -267,7 +282,7 @@ fn is_refused_before(
 #[test]
 fn item_end_ends_valid_items_and_none_that_is_cut_off(rt: HostRuntime) -> Result<(), Fail> {
     let alloc = rt.alloc();
-    let valid = program(alloc, 0)?;
+    let valid = program(alloc, 0, Order::Bytewise)?;
     for bytes in ROWS.iter() {
         match read_item(alloc, Order::Bytewise, bytes, 0, 64) {
             Ok((_, behind)) => {
@@ -288,9 +303,9 @@ fn item_end_ends_valid_items_and_none_that_is_cut_off(rt: HostRuntime) -> Result
 #[test]
 fn the_call_depth_grows_by_two_a_level(rt: HostRuntime) -> Result<(), Fail> {
     let alloc = rt.alloc();
-    assert_eq!(rt; program(alloc, 0)?.call_depth(), 7);
-    assert_eq!(rt; program(alloc, 1)?.call_depth(), 9);
-    assert_eq!(rt; program(alloc, 32)?.call_depth(), 71);
+    assert_eq!(rt; program(alloc, 0, Order::Bytewise)?.call_depth(), 7);
+    assert_eq!(rt; program(alloc, 1, Order::LengthFirst)?.call_depth(), 9);
+    assert_eq!(rt; program(alloc, 32, Order::Bytewise)?.call_depth(), 71);
     Ok(())
 }
 
@@ -308,7 +323,7 @@ fn every_fixed_function_is_there(rt: HostRuntime) -> Result<(), Fail> {
         "copy_bytes",
     ];
     let alloc = rt.alloc();
-    let valid = program(alloc, 0)?;
+    let valid = program(alloc, 0, Order::Bytewise)?;
     for name in names {
         assert!(rt; valid.function(name).is_some(), "{name}");
     }

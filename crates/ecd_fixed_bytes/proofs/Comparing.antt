@@ -1,7 +1,7 @@
 -- What the function that compares bytes answers, and that it is valid behind any items.
 use Rattle.std.proofs.Common.{◌≡◌, ℕ, suc, ◌+◌, ◌*◌, min, ◌<◌, ◌≤◌, inl, inr, List, [], ◌∷◌, ◌++◌, length, refl, ap, sym, subst, ◌∙◌, arith, true, false, drop, get_or, add-one, rules}
 use Rattle.std.specs.Prelude.{codes, nat_eq, nat_lt}
-use Rattle.std.specs.Ordering.{nat_cmp}
+use Rattle.std.specs.Ordering.{nat_cmp, ordering_then}
 use Rattle.std.specs.Cmp.Lexicographic.{slice_cmp}
 use Rattle.std.specs.declared.cmp.Ordering.{Ordering}
 use Rattle.std.specs.declared.cmp.Ordering.TheVariants.{Less, Equal, Greater}
@@ -23,10 +23,13 @@ use Rattle.ecd_cast.specs.Validity.{IsValidAfter}
 use Rattle.ecd_cast.specs.Spelling.{IsSpelledItem}
 use Rattle.ecd_calculus.specs.Ends.{Answers}
 use Rattle.ecd_calculus.specs.Rules.{Goes, Works}
-use Rattle.ecd_calculus.proofs.Rules.{return_rule, guard_rule, for_rule, guard_goes, nil_goes, called_rule, works_within}
+use Rattle.ecd_calculus.proofs.Rules.{return_rule, if_rule, guard_rule, for_rule, guard_goes, nil_goes, called_rule, works_within}
+use Rattle.ecd_keyorder.specs.declared.Order.{Order}
+use Rattle.ecd_keyorder.specs.declared.Order.TheVariants.{Bytewise, LengthFirst}
+use Rattle.ecd_keyorder.specs.Order.{comparison}
 use Rattle.ecd_emit.specs.Variables as v
 use Rattle.ecd_emit.specs.Windows.{Window}
-use Rattle.ecd_fixed_bytes.specs.Compare.{compare_bytes, compare_turn, compare_lengths, order_number, ComparesBytes}
+use Rattle.ecd_fixed_bytes.specs.Compare.{compare_bytes, compare_turn, compare_lengths, compare_each, compare_body, order_number, ComparesBytes}
 use Rattle.ecd_emit.specs.Among.{IsAmong}
 use Rattle.ecd_emit.proofs.Windows.{long, one_byte, from_at}
 use Rattle.ecd_emit.proofs.Stopping.{stops_rule}
@@ -116,35 +119,65 @@ module _ (calls : Calls) (k block offset len other other_offset other_len : ℕ)
   each_turn : (i : ℕ) (env : Scopes) → i < len → Before i env → Goes calls m compare_turn (((v.at, Num i) ∷ []) ∷ env) Answer (λ e. Before (i + 1) (leave e)) 6
   each_turn i env lt h = subst (λ (s : Scopes). Goes calls m compare_turn (((v.at, Num i) ∷ []) ∷ s) Answer (λ e. Before (i + 1) (leave e)) 6) (sym h.0) (turn i lt h.1 h.2)
 
-  pub compare_answers : Answers (called calls k compare_bytes handed m) Answer (7 * (min len other_len + 1))
+  each_works : Works calls m compare_each scopes Answer (7 * min len other_len + 4)
+  unfolding exprs.shape-the_row-Expr-0 exprs.hidden-the_row-Expr-0 hidden
+  each_works = elim (cases_lt other_len len) [
+    | inl lt ↦
+        works_within (suc (other_len * 7 + 3)) (7 * min len other_len + 4) (omega (arith, lt)) (
+        stops_rule len other_len 6 2 Before refl lt (refl, omega arith, refl) (λ i env below h. each_turn i env (omega (arith, lt, below)) h)
+        (λ env h. subst (λ (s : Scopes). Works calls m compare_turn (((v.at, Num other_len) ∷ []) ∷ s) Answer 2) (sym h.0) (last lt h.2)))
+    | inr le ↦
+        works_within (suc (len * 7 + 3)) (7 * min len other_len + 4) (omega (arith, le)) (
+        for_rule len 6 3 Before refl (refl, omega arith, refl) each_turn (λ env h. subst (λ (s : Scopes). Works calls m compare_lengths s Answer 3) (sym h.0) (behind h.1 h.2)))
+  ]
+
+  -- ---- what the lengths decide
+
+  shorter : nat_lt len other_len ≡ true → comparison LengthFirst left right ≡ Less
+  shorter h = rw (long w, long u, h) refl
+
+  longer : nat_lt len other_len ≡ false → nat_lt other_len len ≡ true → comparison LengthFirst left right ≡ Greater
+  longer h k = let other : nat_eq len other_len ≡ false = grind (arith, nat_tests, k) in rw (long w, long u, h, other) refl
+
+  as_long : nat_lt len other_len ≡ false → nat_lt other_len len ≡ false → comparison LengthFirst left right ≡ slice_cmp nat_cmp left right
+  as_long h k = let same : nat_eq len other_len ≡ true = grind (arith, nat_tests, h, k) in rw (long w, long u, h, same) refl
+
+  abbrev InOrder : Order → ℕ → Type 0
+  InOrder order n = n ≡ order_number (comparison order left right)
+
+  body_works : (order : Order) → Works calls m (compare_body order) scopes (InOrder order) (7 * (min len other_len + 1))
+  unfolding exprs.shape-the_row-Expr-0 exprs.hidden-the_row-Expr-0 hidden
+  body_works Bytewise = works_within (7 * min len other_len + 4) (7 * (min len other_len + 1)) (omega arith) each_works
+  body_works LengthFirst =
+      works_within (suc (suc (7 * min len other_len + 4))) (7 * (min len other_len + 1)) (omega arith) (
+      if_rule {k = suc (7 * min len other_len + 4)} (nat_lt len other_len) (record { tells = refl })
+      (λ h. works_within 1 (suc (7 * min len other_len + 4)) (omega arith) (return_rule {n = 0} (record { is = refl }) (ap order_number (sym (shorter h))))) (λ h1.
+      if_rule {k = 7 * min len other_len + 4} (nat_lt other_len len) (record { tells = refl })
+      (λ h. works_within 1 (7 * min len other_len + 4) (omega arith) (return_rule {n = 2} (record { is = refl }) (ap order_number (sym (longer h1 h))))) (λ h2.
+      subst (λ (o : Ordering). Works calls m compare_each scopes (λ n. n ≡ order_number o) (7 * min len other_len + 4)) (sym (as_long h1 h2)) each_works)))
+
+  pub compare_answers : (order : Order) → Answers (called calls k (compare_bytes order) handed m) (InOrder order) (7 * (min len other_len + 1))
   unfolding compare_bytes exprs.shape-the_row-Expr-0 exprs.hidden-the_row-Expr-0 hidden
-  compare_answers = called_rule calls m k compare_bytes handed Answer (7 * (min len other_len + 1)) (
-      elim (cases_lt other_len len) [
-        | inl lt ↦
-            works_within (suc (other_len * 7 + 3)) (7 * (min len other_len + 1)) (omega (arith, lt)) (
-            stops_rule len other_len 6 2 Before refl lt (refl, omega arith, refl) (λ i env below h. each_turn i env (omega (arith, lt, below)) h)
-            (λ env h. subst (λ (s : Scopes). Works calls m compare_turn (((v.at, Num other_len) ∷ []) ∷ s) Answer 2) (sym h.0) (last lt h.2)))
-        | inr le ↦
-            works_within (suc (len * 7 + 3)) (7 * (min len other_len + 1)) (omega (arith, le)) (
-            for_rule len 6 3 Before refl (refl, omega arith, refl) each_turn (λ env h. subst (λ (s : Scopes). Works calls m compare_lengths s Answer 3) (sym h.0) (behind h.1 h.2)))
-      ])
+  compare_answers order = called_rule calls m k (compare_bytes order) handed (InOrder order) (7 * (min len other_len + 1)) (body_works order)
 
 -- ---- behind any items
 
-pub compare_valid : (before : List CItem) → IsNew (codes "compare_bytes") before → IsValidAfter before (AFunction compare_bytes)
+pub compare_valid : (order : Order) (before : List CItem) → IsNew (codes "compare_bytes") before → IsValidAfter before (AFunction (compare_bytes order))
 unfolding compare_bytes exprs.shape-the_row-Expr-0 exprs.hidden-the_row-Expr-0 hidden stmts.shape-the_row-Stmt-0 stmts.hidden-the_row-Stmt-0
-compare_valid before new = let free : IsFree (codes "compare_bytes") before = free_of before (codes "compare_bytes") new in record { sound = rw free refl }
+compare_valid Bytewise before new = let free : IsFree (codes "compare_bytes") before = free_of before (codes "compare_bytes") new in record { sound = rw free refl }
+compare_valid LengthFirst before new = let free : IsFree (codes "compare_bytes") before = free_of before (codes "compare_bytes") new in record { sound = rw free refl }
 
-pub compare_spelled : IsSpelledItem (AFunction compare_bytes)
+pub compare_spelled : (order : Order) → IsSpelledItem (AFunction (compare_bytes order))
 unfolding compare_bytes exprs.shape-the_row-Expr-0 exprs.hidden-the_row-Expr-0 hidden stmts.shape-the_row-Stmt-0 stmts.hidden-the_row-Stmt-0
-compare_spelled = search rules
+compare_spelled Bytewise = search rules
+compare_spelled LengthFirst = search rules
 
-pub compare_means : (items : List CItem) → ComparesBytes (calls_of (items ++ AFunction compare_bytes ∷ []) (codes "compare_bytes"))
+pub compare_means : (order : Order) (items : List CItem) → ComparesBytes order (calls_of (items ++ AFunction (compare_bytes order) ∷ []) (codes "compare_bytes"))
 unfolding compare_bytes
-compare_means items = subst ComparesBytes (last_call items compare_bytes) (record {
-  answers = λ block offset len other other_offset other_len m left right w u. compare_answers (calls_of items) (0 + length items) block offset len other other_offset other_len m left right w u;
+compare_means order items = subst (ComparesBytes order) (last_call items (compare_bytes order)) (record {
+  answers = λ block offset len other other_offset other_len m left right w u. compare_answers (calls_of items) (0 + length items) block offset len other other_offset other_len m left right w u order;
 })
 
-pub compare_among : (items : List CItem) → IsNew (codes "compare_bytes") items → IsAmong compare_bytes (items ++ AFunction compare_bytes ∷ [])
+pub compare_among : (order : Order) (items : List CItem) → IsNew (codes "compare_bytes") items → IsAmong (compare_bytes order) (items ++ AFunction (compare_bytes order) ∷ [])
 unfolding compare_bytes
-compare_among items new = named_behind items (AFunction compare_bytes ∷ []) (codes "compare_bytes") new ∙ refl
+compare_among order items new = named_behind items (AFunction (compare_bytes order) ∷ []) (codes "compare_bytes") new ∙ refl

@@ -9,7 +9,7 @@ use Rattle.ecd_fixed_bytes.specs.Standing.{ComparisonIsKept, Utf8IsKept, HeadWri
 use Rattle.ecd_emit.proofs.Kept.{callee_kept, among_kept}
 
 pub comparison_is_kept : ComparisonIsKept
-comparison_is_kept = record { there = among_kept compare_bytes; mean = λ items more new h. callee_kept ComparesBytes items more (codes "compare_bytes") new h }
+comparison_is_kept = record { there = λ items more h. record { order = h.order; there = among_kept (compare_bytes h.order) items more h.there }; mean = λ order items more new h. callee_kept (ComparesBytes order) items more (codes "compare_bytes") new h }
 
 pub utf8_is_kept : Utf8IsKept
 utf8_is_kept = record {

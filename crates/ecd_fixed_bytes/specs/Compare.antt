@@ -1,7 +1,5 @@
 -- The function that compares bytes: its tree, and what it answers.
-use Rattle.std.specs.Prelude.{ℕ, ◌+◌, ◌*◌, min, ◌≡◌, List, [], ◌∷◌, codes}
-use Rattle.std.specs.Ordering.{nat_cmp}
-use Rattle.std.specs.Cmp.Lexicographic.{slice_cmp}
+use Rattle.std.specs.Prelude.{ℕ, ◌+◌, ◌*◌, min, ◌≡◌, List, [], ◌∷◌, ◌++◌, codes}
 use Rattle.std.specs.declared.cmp.Ordering.{Ordering}
 use Rattle.std.specs.declared.cmp.Ordering.TheVariants.{Less, Equal, Greater}
 use Rattle.ecd_cast.specs.declared.tree.Op.TheVariants.{Eq, Lt, Gt}
@@ -13,6 +11,9 @@ use Rattle.ecd_cast.specs.declared.tree.Function.{Function}
 use Rattle.ecd_cast.specs.declared.value.Value.TheVariants.{Number as Num, Bytes as Ptr}
 use Rattle.ecd_cast.specs.Memory.{Memory}
 use Rattle.ecd_calculus.specs.Ends.{Answers}
+use Rattle.ecd_keyorder.specs.declared.Order.{Order}
+use Rattle.ecd_keyorder.specs.declared.Order.TheVariants.{Bytewise, LengthFirst}
+use Rattle.ecd_keyorder.specs.Order.{comparison}
 use Rattle.ecd_emit.specs.Shorthands.{number, pointer, guard}
 use Rattle.ecd_emit.specs.Variables as v
 use Rattle.ecd_emit.specs.Windows.{Callee, Window}
@@ -37,14 +38,23 @@ compare_turn =
 abbrev pub compare_lengths : List Stmt
 compare_lengths = guard Lt (Var v.left_len) (Var v.right_len) (Number 0) ∷ Return (Number 1) ∷ []
 
-abbrev pub compare_body : List Stmt
-compare_body = For v.at v.left_len compare_turn ∷ compare_lengths
+-- the turns, and what is behind them
+abbrev pub compare_each : List Stmt
+compare_each = For v.at v.left_len compare_turn ∷ compare_lengths
 
-unfoldable pub compare_bytes : Function
-compare_bytes = record {
+-- in front of them in the length-first order: lengths that differ decide
+abbrev pub lengths_first : Order → List Stmt
+lengths_first Bytewise = []
+lengths_first LengthFirst = guard Lt (Var v.left_len) (Var v.right_len) (Number 0) ∷ guard Gt (Var v.left_len) (Var v.right_len) (Number 2) ∷ []
+
+abbrev pub compare_body : Order → List Stmt
+compare_body order = lengths_first order ++ compare_each
+
+unfoldable pub compare_bytes : Order → Function
+compare_bytes order = record {
   name = codes "compare_bytes";
   params = pointer v.left ∷ number v.left_len ∷ pointer v.right ∷ number v.right_len ∷ [];
-  body = compare_body;
+  body = compare_body order;
 }
 
 -- ---- the answer
@@ -55,7 +65,7 @@ order_number Less = 0
 order_number Equal = 1
 order_number Greater = 2
 
--- The first bytes that differ decide, and bytes that begin others come before them. It takes at most seven steps for each byte of the shorter side, and seven more.
-pub record ComparesBytes (callee : Callee) : Type 0 where
+-- How the bytes stand to each other in the order. It takes at most seven steps for each byte of the shorter side, and seven more.
+pub record ComparesBytes (order : Order) (callee : Callee) : Type 0 where
   pub answers : (block offset len other other_offset other_len : ℕ) (m : Memory) (left right : List ℕ) → Window m block offset len left → Window m other other_offset other_len right →
-      Answers (callee (Ptr block offset ∷ Num len ∷ Ptr other other_offset ∷ Num other_len ∷ []) m) (λ n. n ≡ order_number (slice_cmp nat_cmp left right)) (7 * (min len other_len + 1))
+      Answers (callee (Ptr block offset ∷ Num len ∷ Ptr other other_offset ∷ Num other_len ∷ []) m) (λ n. n ≡ order_number (comparison order left right)) (7 * (min len other_len + 1))

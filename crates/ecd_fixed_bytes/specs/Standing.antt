@@ -4,11 +4,17 @@ use Rattle.std.specs.Int.{w16, w32, w64}
 use Rattle.ecd_cast.specs.declared.tree.CItem.{CItem}
 use Rattle.ecd_cast.specs.Kept.{IsNew}
 use Rattle.ecd_cast.specs.Meaning.{calls_of}
+use Rattle.ecd_keyorder.specs.declared.Order.{Order}
 use Rattle.ecd_fixed_bytes.specs.Compare.{compare_bytes, ComparesBytes}
 use Rattle.ecd_fixed_bytes.specs.Utf8.{utf8_names, utf8_begin, utf8_next, utf8_valid, BeginsUtf8, GoesOnUtf8, ChecksUtf8}
 use Rattle.ecd_fixed_bytes.specs.HeadWriter.{put_names, head_length, store_be16, store_be32, store_be64, put_head, HeadLength, StoresNumber, WritesHead}
 use Rattle.ecd_fixed_bytes.specs.Copier.{copy_bytes, CopiesBytes}
 use Rattle.ecd_emit.specs.Among.{AreNew, IsAmong}
+
+-- a function that compares bytes is there, in one of the orders
+pub record ComparisonIsThere (items : List CItem) : Type 0 where
+  pub order : Order
+  pub there : IsAmong (compare_bytes order) items
 
 -- what checks UTF-8 is there
 pub record Utf8IsThere (items : List CItem) : Type 0 where
@@ -42,8 +48,8 @@ pub record HeadWriterMeans (items : List CItem) : Type 0 where
 
 -- Whatever is appended, the function that compares bytes is still there. Where no function in it has its name, it still means the same.
 pub record ComparisonIsKept : Type 0 where
-  pub there : (items more : List CItem) → IsAmong compare_bytes items → IsAmong compare_bytes (items ++ more)
-  pub mean : (items more : List CItem) → IsNew (codes "compare_bytes") more → ComparesBytes (calls_of items (codes "compare_bytes")) → ComparesBytes (calls_of (items ++ more) (codes "compare_bytes"))
+  pub there : (items more : List CItem) → ComparisonIsThere items → ComparisonIsThere (items ++ more)
+  pub mean : (order : Order) (items more : List CItem) → IsNew (codes "compare_bytes") more → ComparesBytes order (calls_of items (codes "compare_bytes")) → ComparesBytes order (calls_of (items ++ more) (codes "compare_bytes"))
 
 -- the same of the functions that check UTF-8, by their names
 pub record Utf8IsKept : Type 0 where

@@ -11,6 +11,7 @@ use Rattle.ecd_judge.specs.declared.refusal.Refusal.TheVariants.{NotUtf8, Lex, P
 use Rattle.ecd_parse.specs.declared.fault.ParseFault.{ParseFault}
 use Rattle.ecd_parse.specs.declared.fault.ParseFault.TheVariants as parses
 use Rattle.ecd_judge.specs.Refusals.{of_grammar_is, of_names_is}
+use Rattle.ecd_keyorder.specs.declared.Order.{Order}
 use Rattle.ecd_judge.specs.Request.{Request, request}
 use Rattle.ecd_judge.specs.Schema.{IsSchema, IsSound, HasCause, IsTold, StandsWithin}
 use Rattle.ecd_syntax.specs.declared.tree.Name.{Name as AName}
@@ -33,22 +34,22 @@ told_or_wants (Name place rule) = inl tt
 told_or_wants NotBuilt = inl tt
 told_or_wants OutOfMemory = inr refl
 
--- ---- what holds for every root and depth
+-- ---- what holds for every root, depth and order
 
-pub only_cause : {A : Type 0} (result : Result A Refusal) (rules_in : A → List Rule) (schema root : List ℕ) (depth : ℕ)
-    → IfOk result (λ a. (other_root : List ℕ) (other_depth : ℕ) → IsSound (request schema other_root other_depth) (rules_in a))
-    → IfErr result (λ r. (other_root : List ℕ) (other_depth : ℕ) → HasCause (request schema other_root other_depth) r)
-    → (cause : Refusal) → IsTold cause → HasCause (request schema root depth) cause → MatchResult result (λ _. ⊥) (λ r. (r ≡ cause) ⊎ (r ≡ OutOfMemory))
-only_cause (Ok a) rules_in schema root depth ok err cause told has = never_refused (request schema root depth) (rules_in a) cause (ok root depth) told has
-only_cause (Err r) rules_in schema root depth ok err cause told has =
-    ⊎_elim (λ (t : IsTold r). inl (one_cause (request schema root depth) r cause t told (err root depth) has)) (λ (e : r ≡ OutOfMemory). inr e) (told_or_wants r)
+pub only_cause : {A : Type 0} (result : Result A Refusal) (rules_in : A → List Rule) (schema root : List ℕ) (depth : ℕ) (order : Order)
+    → IfOk result (λ a. (other_root : List ℕ) (other_depth : ℕ) (other_order : Order) → IsSound (request schema other_root other_depth other_order) (rules_in a))
+    → IfErr result (λ r. (other_root : List ℕ) (other_depth : ℕ) (other_order : Order) → HasCause (request schema other_root other_depth other_order) r)
+    → (cause : Refusal) → IsTold cause → HasCause (request schema root depth order) cause → MatchResult result (λ _. ⊥) (λ r. (r ≡ cause) ⊎ (r ≡ OutOfMemory))
+only_cause (Ok a) rules_in schema root depth order ok err cause told has = never_refused (request schema root depth order) (rules_in a) cause (ok root depth order) told has
+only_cause (Err r) rules_in schema root depth order ok err cause told has =
+    ⊎_elim (λ (t : IsTold r). inl (one_cause (request schema root depth order) r cause t told (err root depth order) has)) (λ (e : r ≡ OutOfMemory). inr e) (told_or_wants r)
 
-pub only_wants : {A : Type 0} (result : Result A Refusal) (schema root : List ℕ) (depth : ℕ) (rules : List Rule)
-    → IfErr result (λ r. (other_root : List ℕ) (other_depth : ℕ) → HasCause (request schema other_root other_depth) r)
-    → IsSound (request schema root depth) rules → IfErr result (λ r. r ≡ OutOfMemory)
-only_wants (Ok a) schema root depth rules err is = tt
-only_wants (Err r) schema root depth rules err is =
-    ⊎_elim (λ (t : IsTold r). absurd (never_refused (request schema root depth) rules r is t (err root depth))) (λ (e : r ≡ OutOfMemory). e) (told_or_wants r)
+pub only_wants : {A : Type 0} (result : Result A Refusal) (schema root : List ℕ) (depth : ℕ) (order : Order) (rules : List Rule)
+    → IfErr result (λ r. (other_root : List ℕ) (other_depth : ℕ) (other_order : Order) → HasCause (request schema other_root other_depth other_order) r)
+    → IsSound (request schema root depth order) rules → IfErr result (λ r. r ≡ OutOfMemory)
+only_wants (Ok a) schema root depth order rules err is = tt
+only_wants (Err r) schema root depth order rules err is =
+    ⊎_elim (λ (t : IsTold r). absurd (never_refused (request schema root depth order) rules r is t (err root depth order))) (λ (e : r ≡ OutOfMemory). e) (told_or_wants r)
 
 -- ---- places
 

@@ -3,6 +3,7 @@
 ghost use Rattle.std.specs.Prelude.{ℕ, List, ◌≡◌, ◌≤◌, IfOk, IfErr, length};
 ghost use Rattle.std.specs.List.{AllByRecursion};
 ghost use Rattle.ecd_uses.specs.Places.{IsRuleInside};
+ghost use Rattle.ecd_keyorder.specs.declared.Order.{Order};
 ghost use Rattle.ecd_judge.specs.Request.{request};
 ghost use Rattle.ecd_judge.specs.Schema.{IsSchema, HasCause, StandsWithin};
 
@@ -16,7 +17,7 @@ fn tree_of(alloc: Global, text: &str) -> Result<Tree, Refusal>
     requires { length text.now ≤ MOST_BYTES }
     ensures tree { IfOk result (λ tree. IsSchema text.now tree) }
     ensures inside { IfOk result (λ tree. AllByRecursion (IsRuleInside (length text.now)) tree.rules) }
-    ensures refused { IfErr result (λ refusal. (root : List ℕ) (depth : ℕ) → HasCause (request text.now root depth) refusal) }
+    ensures refused { IfErr result (λ refusal. (root : List ℕ) (depth : ℕ) (order : Order) → HasCause (request text.now root depth order) refusal) }
     ensures within { IfErr result (λ refusal. StandsWithin (length text.now) refusal) }
 {
     let tokens = match lex(alloc, text) {
@@ -35,7 +36,7 @@ pub(crate) fn schema_tree(alloc: Global, schema: &[u8]) -> Result<Tree, Refusal>
     requires { length schema.now ≤ MOST_BYTES }
     ensures tree { IfOk result (λ tree. IsSchema schema.now tree) }
     ensures inside { IfOk result (λ tree. AllByRecursion (IsRuleInside (length schema.now)) tree.rules) }
-    ensures refused { IfErr result (λ refusal. (root : List ℕ) (depth : ℕ) → HasCause (request schema.now root depth) refusal) }
+    ensures refused { IfErr result (λ refusal. (root : List ℕ) (depth : ℕ) (order : Order) → HasCause (request schema.now root depth order) refusal) }
     ensures within { IfErr result (λ refusal. StandsWithin (length schema.now) refusal) }
 {
     match str::from_utf8(schema) {

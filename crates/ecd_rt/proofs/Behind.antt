@@ -5,7 +5,7 @@ use Rattle.std.specs.Str.{is_utf8}
 use Rattle.std.proofs.lemmas.Bool.{lt-ltb, le-ltb}
 use Rattle.std.proofs.lemmas.Bool.Decides.{nat_tests}
 use Rattle.ecd_head.specs.declared.Head.{Head}
-use Rattle.ecd_keyorder.specs.declared.Order.TheVariants.{Bytewise}
+use Rattle.ecd_keyorder.specs.declared.Order.{Order}
 use Rattle.ecd_item_laws.specs.declared.item.Item.{Item}
 use Rattle.ecd_item_laws.specs.declared.item.Item.TheVariants.{Array, Map, Tag}
 use Rattle.ecd_item_laws.specs.Parts.{head_from}
@@ -28,12 +28,12 @@ few_left len at size head some e = grind (arith, nat_tests, e)
 no_least : (x major argument : ℕ) → x < least_behind (head_from (suc (suc (suc (suc (suc (suc major)))))) argument) → ⊥
 no_least x major argument lt = grind (arith, nat_tests, lt)
 
-module _ (inner : Option (Reader Item)) (ahead : Advance inner) (at from len : ℕ) (bytes : List ℕ) (fits : IsBytes bytes) (long : length bytes ≡ len) (room : from ≤ len) where
+module _ (order : Order) (inner : Option (Reader Item)) (ahead : Advance inner) (at from len : ℕ) (bytes : List ℕ) (fits : IsBytes bytes) (long : length bytes ≡ len) (room : from ≤ len) where
   abbrev rest : List ℕ
   rest = drop from bytes
 
   abbrev place : ℕ → ℕ → ℕ
-  place major argument = place_of (behind Bytewise inner at (head_from major argument) from rest)
+  place major argument = place_of (behind order inner at (head_from major argument) from rest)
 
   left : length rest ≡ len - from
   left = omega (arith, length-drop from bytes, long)
@@ -68,15 +68,15 @@ module _ (inner : Option (Reader Item)) (ahead : Advance inner) (at from len : �
 
   -- ---- what has items inside
 
-  no_array : (i : Option (Reader Item)) → Advance i → (a : ℕ) → len - from < a → place_of (parts Bytewise i at (head_from 4 a) from rest) ≡ 0
+  no_array : (i : Option (Reader Item)) → Advance i → (a : ℕ) → len - from < a → place_of (parts order i at (head_from 4 a) from rest) ≡ 0
   unfolding parts
   no_array None h a lt = refl
   no_array (Some read) h a lt = place_made Array (many read a from rest) ∙ few_many read h bytes fits a from (omega (arith, room, long)) (omega (arith, lt, long))
 
-  no_map : (i : Option (Reader Item)) → Advance i → (a : ℕ) → len - from < a → place_of (parts Bytewise i at (head_from 5 a) from rest) ≡ 0
+  no_map : (i : Option (Reader Item)) → Advance i → (a : ℕ) → len - from < a → place_of (parts order i at (head_from 5 a) from rest) ≡ 0
   unfolding parts
   no_map None h a lt = refl
-  no_map (Some read) h a lt = place_made Map (pairs Bytewise read None a from rest) ∙ few_pairs read h bytes fits Bytewise a None from (omega (arith, room, long)) (omega (arith, lt, long))
+  no_map (Some read) h a lt = place_made Map (pairs order read None a from rest) ∙ few_pairs read h bytes fits order a None from (omega (arith, room, long)) (omega (arith, lt, long))
 
   -- ---- by the major type
 
@@ -90,7 +90,7 @@ module _ (inner : Option (Reader Item)) (ahead : Advance inner) (at from len : �
   by_few (suc (suc (suc (suc (suc zero))))) a lt = no_map inner ahead a lt
   by_few (suc (suc (suc (suc (suc (suc major)))))) a lt = absurd (no_least (len - from) major a lt)
 
-  pub few_end : (head : Head) → len - from < least_behind head → place_of (behind Bytewise inner at head from rest) ≡ 0
+  pub few_end : (head : Head) → len - from < least_behind head → place_of (behind order inner at head from rest) ≡ 0
   few_end head lt = by_few head.major head.arg lt
 
   by_low : (major a : ℕ) → major < 3 → least_behind (head_from major a) ≤ len - from → from + string_behind (head_from major a) ≡ place major a
@@ -100,14 +100,14 @@ module _ (inner : Option (Reader Item)) (ahead : Advance inner) (at from len : �
   by_low (suc (suc zero)) a lt le = bytes_end a le
   by_low (suc (suc (suc major))) a lt le = absurd (omega arith)
 
-  pub low_end : (head : Head) → head.major < 3 → least_behind head ≤ len - from → from + string_behind head ≡ place_of (behind Bytewise inner at head from rest)
+  pub low_end : (head : Head) → head.major < 3 → least_behind head ≤ len - from → from + string_behind head ≡ place_of (behind order inner at head from rest)
   low_end head lt le = by_low head.major head.arg lt le
 
   pub simple_end : (a : ℕ) → from ≡ place 7 a
   unfolding behind
   simple_end a = refl
 
-  by_parts : (major a : ℕ) → 3 < major → major < 7 → place major a ≡ place_of (parts Bytewise inner at (head_from major a) from rest)
+  by_parts : (major a : ℕ) → 3 < major → major < 7 → place major a ≡ place_of (parts order inner at (head_from major a) from rest)
   unfolding behind
   by_parts zero a lt le = absurd (omega arith)
   by_parts (suc zero) a lt le = absurd (omega arith)
@@ -118,24 +118,24 @@ module _ (inner : Option (Reader Item)) (ahead : Advance inner) (at from len : �
   by_parts (suc (suc (suc (suc (suc (suc zero)))))) a lt le = refl
   by_parts (suc (suc (suc (suc (suc (suc (suc major))))))) a lt le = absurd (omega arith)
 
-  pub parts_end : (head : Head) → 3 < head.major → head.major < 7 → place_of (behind Bytewise inner at head from rest) ≡ place_of (parts Bytewise inner at head from rest)
+  pub parts_end : (head : Head) → 3 < head.major → head.major < 7 → place_of (behind order inner at head from rest) ≡ place_of (parts order inner at head from rest)
   parts_end head lt le = by_parts head.major head.arg lt le
 
 -- ---- the parts, where they are read
 
-module _ (read : Reader Item) (at from a : ℕ) (rest : List ℕ) where
-  pub tag_place : place_of (parts Bytewise (Some read) at (head_from 6 a) from rest) ≡ place_of (read from rest)
+module _ (order : Order) (read : Reader Item) (at from a : ℕ) (rest : List ℕ) where
+  pub tag_place : place_of (parts order (Some read) at (head_from 6 a) from rest) ≡ place_of (read from rest)
   unfolding parts
   tag_place = place_made (Tag a) (read from rest)
 
-  pub map_place : place_of (parts Bytewise (Some read) at (head_from 5 a) from rest) ≡ place_of (pairs Bytewise read None a from rest)
+  pub map_place : place_of (parts order (Some read) at (head_from 5 a) from rest) ≡ place_of (pairs order read None a from rest)
   unfolding parts
-  map_place = place_made Map (pairs Bytewise read None a from rest)
+  map_place = place_made Map (pairs order read None a from rest)
 
-  pub array_place : place_of (parts Bytewise (Some read) at (head_from 4 a) from rest) ≡ place_of (many read a from rest)
+  pub array_place : place_of (parts order (Some read) at (head_from 4 a) from rest) ≡ place_of (many read a from rest)
   unfolding parts
   array_place = place_made Array (many read a from rest)
 
-pub no_parts : (at from : ℕ) (head : Head) (rest : List ℕ) → place_of (parts Bytewise None at head from rest) ≡ 0
+pub no_parts : (order : Order) (at from : ℕ) (head : Head) (rest : List ℕ) → place_of (parts order None at head from rest) ≡ 0
 unfolding parts
-no_parts at from head rest = refl
+no_parts order at from head rest = refl

@@ -13,7 +13,7 @@ use Rattle.ecd_cast.specs.Kept.{IsNew}
 use Rattle.ecd_cast.specs.Meaning.{calls_of}
 use Rattle.ecd_cast.specs.Validity.{IsValidAfter}
 use Rattle.ecd_cast.specs.Spelling.{IsSpelledItem, IsName}
-use Rattle.ecd_keyorder.specs.declared.Order.TheVariants.{Bytewise}
+use Rattle.ecd_keyorder.specs.declared.Order.{Order}
 use Rattle.ecd_item_laws.specs.Reading.{item_at, many, pairs}
 use Rattle.ecd_fixed_heads.specs.Meanings.{HeadArgument}
 use Rattle.ecd_fixed_heads.specs.Heads.{head_argument}
@@ -21,6 +21,8 @@ use Rattle.ecd_fixed_heads.specs.Extents.{own_end, OwnEnd}
 use Rattle.ecd_fixed_bytes.specs.Utf8.{utf8_valid, ChecksUtf8}
 use Rattle.ecd_fixed_bytes.specs.Compare.{compare_bytes, ComparesBytes}
 use Rattle.ecd_emit.specs.Among.{AreNew, IsAmong}
+use Rattle.ecd_fixed_bytes.specs.Standing.{ComparisonIsThere}
+use Rattle.ecd_fixed_bytes.proofs.Kept.{comparison_is_kept}
 use Rattle.ecd_emit.proofs.Kept.{callee_kept, among_kept}
 use Rattle.ecd_emit.specs.Among.{IsFree}
 use Rattle.ecd_emit.proofs.Placed.{placed_last, kept, free_behind, named_behind, new_behind}
@@ -45,9 +47,9 @@ pub items_valid : (below : ℕ) (before : List CItem) → IsFree (items_name bel
 unfolding any_end items_end exprs.shape-the_row-Expr-0 exprs.hidden-the_row-Expr-0 hidden stmts.shape-the_row-Stmt-0 stmts.hidden-the_row-Stmt-0
 items_valid below before free any = record { sound = rw (free, any) refl }
 
-pub pairs_valid : (below : ℕ) (before : List CItem) → IsFree (pairs_name below) before → IsAmong (any_end below) before → IsAmong compare_bytes before → IsValidAfter before (AFunction (pairs_end below))
+pub pairs_valid : (below : ℕ) (before : List CItem) → IsFree (pairs_name below) before → IsAmong (any_end below) before → ComparisonIsThere before → IsValidAfter before (AFunction (pairs_end below))
 unfolding any_end pairs_end compare_bytes exprs.shape-the_row-Expr-0 exprs.hidden-the_row-Expr-0 hidden stmts.shape-the_row-Stmt-0 stmts.hidden-the_row-Stmt-0
-pairs_valid below before free any compare = record { sound = rw (free, any, compare) refl }
+pairs_valid below before free any compare = record { sound = rw (free, any, compare.there) refl }
 
 pub leaf_valid : (before : List CItem) → IsFree (any_name 0) before → IsAmong own_end before → IsAmong text_end before → IsValidAfter before (AFunction (any_end 0))
 unfolding own_end text_end any_end exprs.shape-the_row-Expr-0 exprs.hidden-the_row-Expr-0 hidden stmts.shape-the_row-Stmt-0 stmts.hidden-the_row-Stmt-0
@@ -143,7 +145,7 @@ module _ (below : ℕ) (base : List CItem) (there : LevelIsThere below base) (ne
   pairs_new = (items_pairs below below, tt)
 
   pub valid_pairs : IsValidAfter (base ++ one_level below) (AFunction (pairs_end below))
-  valid_pairs = pairs_valid below (base ++ one_level below) (free_behind base (one_level below) (pairs_name below) new.1.0 pairs_new) (among_kept (any_end below) base (one_level below) there.any) (among_kept compare_bytes base (one_level below) there.comparison)
+  valid_pairs = pairs_valid below (base ++ one_level below) (free_behind base (one_level below) (pairs_name below) new.1.0 pairs_new) (among_kept (any_end below) base (one_level below) there.any) (comparison_is_kept.there base (one_level below) there.comparison)
 
   any_new : IsNew (any_name (suc below)) (two_levels below)
   unfolding items_end pairs_end
@@ -175,14 +177,14 @@ module _ (below : ℕ) (base : List CItem) (there : LevelIsThere below base) (ne
 -- ---- what they mean there
 
 -- what a level means that others stand on
-pub record LevelMeans (below : ℕ) (base : List CItem) : Type 0 where
+pub record LevelMeans (order : Order) (below : ℕ) (base : List CItem) : Type 0 where
   pub own : OwnEnd (calls_of base (codes "own_end"))
   pub argument : HeadArgument (calls_of base (codes "head_argument"))
-  pub compare : ComparesBytes (calls_of base (codes "compare_bytes"))
+  pub compare : ComparesBytes order (calls_of base (codes "compare_bytes"))
   pub text : TextEnd (calls_of base (codes "text_end"))
-  pub any : Follows (item_at Bytewise below) (162 * (below + 1)) (calls_of base (any_name below))
+  pub any : Follows (item_at order below) (162 * (below + 1)) (calls_of base (any_name below))
 
-module _ (old : List CItem) (mean : FrontMeans old) where
+module _ (order : Order) (old : List CItem) (mean : FrontMeans order old) where
   text_means : TextEnd (calls_of (old ++ one_leaf) (codes "text_end"))
   unfolding text_end
   text_means =
@@ -205,13 +207,13 @@ module _ (old : List CItem) (mean : FrontMeans old) where
   unfolding text_end
   compare_text = refl
 
-  leaf_means : Follows (item_at Bytewise 0) (162 * (0 + 1)) (calls_of (old ++ any_functions 0) (any_name 0))
+  leaf_means : Follows (item_at order 0) (162 * (0 + 1)) (calls_of (old ++ any_functions 0) (any_name 0))
   unfolding any_end
   leaf_means =
       let before : List CItem = old ++ one_leaf in
       let own : OwnEnd (calls_of before (codes "own_end")) = callee_kept OwnEnd old one_leaf (codes "own_end") (own_text, tt) mean.extents.own in
       let arguments : HeadArgument (calls_of before (codes "head_argument")) = callee_kept HeadArgument old one_leaf (codes "head_argument") (argument_text, tt) mean.heads.argument in
-      placed_last (Follows (item_at Bytewise 0) (162 * (0 + 1))) old one_leaf (any_end 0) (leaf_follows (calls_of before) (0 + length before) own text_means arguments)
+      placed_last (Follows (item_at order 0) (162 * (0 + 1))) old one_leaf (any_end 0) (leaf_follows order (calls_of before) (0 + length before) own text_means arguments)
 
   leaf_tail : IsNew (codes "text_end") (AFunction (any_end 0) ∷ [])
   unfolding any_end any_name
@@ -229,11 +231,11 @@ module _ (old : List CItem) (mean : FrontMeans old) where
   unfolding text_end any_end any_name
   compare_leaf = (refl, (refl, tt))
 
-  pub base_means : LevelMeans 0 (old ++ any_functions 0)
+  pub base_means : LevelMeans order 0 (old ++ any_functions 0)
   base_means = record {
     own = callee_kept OwnEnd old (any_functions 0) (codes "own_end") own_leaf mean.extents.own;
     argument = callee_kept HeadArgument old (any_functions 0) (codes "head_argument") argument_leaf mean.heads.argument;
-    compare = callee_kept ComparesBytes old (any_functions 0) (codes "compare_bytes") compare_leaf mean.comparison;
+    compare = callee_kept (ComparesBytes order) old (any_functions 0) (codes "compare_bytes") compare_leaf mean.comparison;
     text = kept TextEnd old one_leaf (AFunction (any_end 0) ∷ []) (codes "text_end") leaf_tail text_means;
     any = leaf_means;
   }
@@ -254,17 +256,17 @@ text_of_level : (k : ℕ) → IsNew (codes "text_end") (level_functions k)
 unfolding items_end pairs_end any_end any_name items_name pairs_name
 text_of_level k = (refl, (refl, (refl, tt)))
 
-module _ (below : ℕ) (base : List CItem) (mean : LevelMeans below base) where
+module _ (order : Order) (below : ℕ) (base : List CItem) (mean : LevelMeans order below base) where
   abbrev each : ℕ
   each = 162 * (below + 1)
 
-  items_mean : FollowsMany (many (item_at Bytewise below)) (each + 4) 3 (calls_of (base ++ one_level below) (items_name below))
+  items_mean : FollowsMany (many (item_at order below)) (each + 4) 3 (calls_of (base ++ one_level below) (items_name below))
   unfolding items_end
   items_mean =
       let before : List CItem = base ++ [] in
-      let any : Follows (item_at Bytewise below) each (calls_of before (any_name below)) = callee_kept (Follows (item_at Bytewise below) each) base [] (any_name below) tt mean.any in
-      placed_last (FollowsMany (many (item_at Bytewise below)) (each + 4) 3) base [] (items_end below) (record {
-        answers = λ block offset len at count m bytes w le. items_answers (item_at Bytewise below) (item_advances Bytewise below) each below (calls_of before) (0 + length before) block offset len at count m bytes w le any;
+      let any : Follows (item_at order below) each (calls_of before (any_name below)) = callee_kept (Follows (item_at order below) each) base [] (any_name below) tt mean.any in
+      placed_last (FollowsMany (many (item_at order below)) (each + 4) 3) base [] (items_end below) (record {
+        answers = λ block offset len at count m bytes w le. items_answers (item_at order below) (item_advances order below) each below (calls_of before) (0 + length before) block offset len at count m bytes w le any;
       })
 
   any_items_new : IsNew (any_name below) (one_level below)
@@ -275,14 +277,14 @@ module _ (below : ℕ) (base : List CItem) (mean : LevelMeans below base) where
   unfolding items_end items_name
   compare_items_new = (refl, tt)
 
-  pairs_mean : FollowsMany (λ n. pairs Bytewise (item_at Bytewise below) None n) (each + 27) 5 (calls_of (base ++ two_levels below) (pairs_name below))
+  pairs_mean : FollowsMany (λ n. pairs order (item_at order below) None n) (each + 27) 5 (calls_of (base ++ two_levels below) (pairs_name below))
   unfolding pairs_end
   pairs_mean =
       let before : List CItem = base ++ one_level below in
-      let any : Follows (item_at Bytewise below) each (calls_of before (any_name below)) = callee_kept (Follows (item_at Bytewise below) each) base (one_level below) (any_name below) any_items_new mean.any in
-      let compares : ComparesBytes (calls_of before (codes "compare_bytes")) = callee_kept ComparesBytes base (one_level below) (codes "compare_bytes") compare_items_new mean.compare in
-      placed_last (FollowsMany (λ n. pairs Bytewise (item_at Bytewise below) None n) (each + 27) 5) base (one_level below) (pairs_end below) (record {
-        answers = λ block offset len at count m bytes w le. pairs_answers (item_at Bytewise below) (item_advances Bytewise below) each below (calls_of before) (0 + length before) block offset len at count m bytes w le any compares;
+      let any : Follows (item_at order below) each (calls_of before (any_name below)) = callee_kept (Follows (item_at order below) each) base (one_level below) (any_name below) any_items_new mean.any in
+      let compares : ComparesBytes order (calls_of before (codes "compare_bytes")) = callee_kept (ComparesBytes order) base (one_level below) (codes "compare_bytes") compare_items_new mean.compare in
+      placed_last (FollowsMany (λ n. pairs order (item_at order below) None n) (each + 27) 5) base (one_level below) (pairs_end below) (record {
+        answers = λ block offset len at count m bytes w le. pairs_answers order (item_at order below) (item_advances order below) each below (calls_of before) (0 + length before) block offset len at count m bytes w le any compares;
       })
 
   items_pairs_new : IsNew (items_name below) (AFunction (pairs_end below) ∷ [])
@@ -305,22 +307,22 @@ module _ (below : ℕ) (base : List CItem) (mean : LevelMeans below base) where
   unfolding items_end pairs_end items_name pairs_name
   text_two = (refl, (refl, tt))
 
-  next_means : Follows (item_at Bytewise (suc below)) (162 * (suc below + 1)) (calls_of (base ++ level_functions below) (any_name (suc below)))
+  next_means : Follows (item_at order (suc below)) (162 * (suc below + 1)) (calls_of (base ++ level_functions below) (any_name (suc below)))
   unfolding any_end
   next_means =
       let before : List CItem = base ++ two_levels below in
       let own : OwnEnd (calls_of before (codes "own_end")) = callee_kept OwnEnd base (two_levels below) (codes "own_end") own_two mean.own in
       let text : TextEnd (calls_of before (codes "text_end")) = callee_kept TextEnd base (two_levels below) (codes "text_end") text_two mean.text in
       let argument : HeadArgument (calls_of before (codes "head_argument")) = callee_kept HeadArgument base (two_levels below) (codes "head_argument") argument_two mean.argument in
-      let any : Follows (item_at Bytewise below) each (calls_of before (any_name below)) = callee_kept (Follows (item_at Bytewise below) each) base (two_levels below) (any_name below) any_two_new mean.any in
-      let items = kept (FollowsMany (many (item_at Bytewise below)) (each + 4) 3) base (one_level below) (AFunction (pairs_end below) ∷ []) (items_name below) items_pairs_new items_mean in
-      placed_last (Follows (item_at Bytewise (suc below)) (162 * (suc below + 1))) base (two_levels below) (any_end (suc below)) (level_follows (calls_of before) (0 + length before) own text argument below any items pairs_mean)
+      let any : Follows (item_at order below) each (calls_of before (any_name below)) = callee_kept (Follows (item_at order below) each) base (two_levels below) (any_name below) any_two_new mean.any in
+      let items = kept (FollowsMany (many (item_at order below)) (each + 4) 3) base (one_level below) (AFunction (pairs_end below) ∷ []) (items_name below) items_pairs_new items_mean in
+      placed_last (Follows (item_at order (suc below)) (162 * (suc below + 1))) base (two_levels below) (any_end (suc below)) (level_follows order (calls_of before) (0 + length before) own text argument below any items pairs_mean)
 
-  pub level_means : LevelMeans (suc below) (base ++ level_functions below)
+  pub level_means : LevelMeans order (suc below) (base ++ level_functions below)
   level_means = record {
     own = callee_kept OwnEnd base (level_functions below) (codes "own_end") (own_of_level below) mean.own;
     argument = callee_kept HeadArgument base (level_functions below) (codes "head_argument") (argument_of_level below) mean.argument;
-    compare = callee_kept ComparesBytes base (level_functions below) (codes "compare_bytes") (compare_of_level below) mean.compare;
+    compare = callee_kept (ComparesBytes order) base (level_functions below) (codes "compare_bytes") (compare_of_level below) mean.compare;
     text = callee_kept TextEnd base (level_functions below) (codes "text_end") (text_of_level below) mean.text;
     any = next_means;
   }

@@ -5,12 +5,12 @@ use Rattle.std.proofs.lemmas.Bool.{eqb-true, eqb-false}
 use Rattle.ecd_cast.specs.declared.tree.CItem.{CItem}
 use Rattle.ecd_cast.specs.Meaning.{calls_of}
 use Rattle.ecd_calculus.specs.Ends.{Does}
-use Rattle.ecd_keyorder.specs.declared.Order.TheVariants.{Bytewise}
+use Rattle.ecd_keyorder.specs.declared.Order.{Order}
 use Rattle.ecd_item_laws.specs.Reading.{item_at}
 use Rattle.ecd_emit.specs.Windows.{Callee, IsEnd, asked}
 use Rattle.ecd_fixed_heads.specs.Heads.{head_argument}
 use Rattle.ecd_fixed_heads.specs.Extents.{own_end}
-use Rattle.ecd_fixed_bytes.specs.Compare.{compare_bytes}
+use Rattle.ecd_fixed_bytes.proofs.Kept.{comparison_is_kept}
 use Rattle.ecd_emit.specs.Among.{AreNew, IsAmong}
 use Rattle.ecd_emit.proofs.Kept.{callee_kept, among_kept}
 use Rattle.ecd_rt.specs.Names.{any_name}
@@ -40,7 +40,7 @@ module _ (old : List CItem) (there : FrontIsThere old) where
   level_there k new any = record {
     own = among_kept own_end old (any_functions k) there.extents.own;
     argument = among_kept head_argument old (any_functions k) there.heads.argument;
-    comparison = among_kept compare_bytes old (any_functions k) there.comparison;
+    comparison = comparison_is_kept.there old (any_functions k) there.comparison;
     text = text_there new k;
     any = any;
   }
@@ -76,31 +76,31 @@ module _ (old : List CItem) (there : FrontIsThere old) where
 
 -- ---- and mean what they are to mean
 
-is_any : (d : ℕ) (callee : Callee) → Follows (item_at Bytewise d) (162 * (d + 1)) callee → IsAny d callee
-is_any d callee f = record {
+is_any : (order : Order) (d : ℕ) (callee : Callee) → Follows (item_at order d) (162 * (d + 1)) callee → IsAny order d callee
+is_any order d callee f = record {
   answers = λ block offset len at m bytes w le.
       let a = f.answers block offset len at m bytes w le in
       record {
         answer = a.answer;
         does = subst (λ (n : ℕ). Does (callee (asked block offset len at) m) a.answer [] (162 * (d + 1) * paid_by len at n)) (sym a.has) a.does;
-        has = subst (IsEnd (WholeStands d bytes at)) (sym a.has) (item_ends d at bytes w.each);
+        has = subst (IsEnd (WholeStands order d bytes at)) (sym a.has) (item_ends order d at bytes w.each);
       };
 }
 
-module _ (old : List CItem) (mean : FrontMeans old) where
-  top_means : (k : ℕ) → LevelMeans k (old ++ any_functions k)
-  top_means zero = base_means old mean
-  top_means (suc k) = one_more old k (LevelMeans (suc k)) (level_means k (old ++ any_functions k) (top_means k))
+module _ (order : Order) (old : List CItem) (mean : FrontMeans order old) where
+  top_means : (k : ℕ) → LevelMeans order k (old ++ any_functions k)
+  top_means zero = base_means order old mean
+  top_means (suc k) = one_more old k (LevelMeans order (suc k)) (level_means order k (old ++ any_functions k) (top_means k))
 
   abbrev Means : (depth k : ℕ) → Type 0
-  Means depth k = IsAny k (calls_of (old ++ any_functions depth) (any_name k))
+  Means depth k = IsAny order k (calls_of (old ++ any_functions depth) (any_name k))
 
   top_any : (k : ℕ) → Means k k
-  top_any k = is_any k (calls_of (old ++ any_functions k) (any_name k)) (top_means k).any
+  top_any k = is_any order k (calls_of (old ++ any_functions k) (any_name k)) (top_means k).any
 
   below_means : (depth k : ℕ) → k ≤ depth → suc depth ≤ 32 → Means depth k → Means (suc depth) k
   below_means depth k le deep h =
-      one_more old depth (λ (items : List CItem). IsAny k (calls_of items (any_name k))) (callee_kept (IsAny k) (old ++ any_functions depth) (level_functions depth) (any_name k) (any_of_level k (omega arith) depth deep (λ e. omega arith)) h)
+      one_more old depth (λ (items : List CItem). IsAny order k (calls_of items (any_name k))) (callee_kept (IsAny order k) (old ++ any_functions depth) (level_functions depth) (any_name k) (any_of_level k (omega arith) depth deep (λ e. omega arith)) h)
 
   means_step : (depth k : ℕ) → k ≤ suc depth → suc depth ≤ 32 → (k ≤ depth → Means depth k) → (b : Bool) → nat_eq k (suc depth) ≡ b → Means (suc depth) k
   means_step depth k le deep ih true e = subst (λ (n : ℕ). Means (suc depth) n) (sym (eqb-true k (suc depth) e)) (top_any (suc depth))
@@ -111,7 +111,7 @@ module _ (old : List CItem) (mean : FrontMeans old) where
   any_means zero deep (suc k) le = absurd (omega arith)
   any_means (suc depth) deep k le = means_step depth k le deep (any_means depth (omega arith) k) (nat_eq k (suc depth)) refl
 
-  pub chain_means : (depth : ℕ) → depth ≤ 32 → AnyMeans depth (old ++ any_functions depth)
+  pub chain_means : (depth : ℕ) → depth ≤ 32 → AnyMeans order depth (old ++ any_functions depth)
   chain_means depth deep = record { text = (top_means depth).text; each = any_means depth deep }
 
 -- ---- the items, one level after the other

@@ -9,6 +9,7 @@ use Rattle.ecd_cast.specs.Kept.{IsNew}
 use Rattle.ecd_fixed_heads.specs.Heads.{load_be16, load_be32, load_be64, head_size, head_least, head_argument, head_end, head_within, head_functions, head_names}
 use Rattle.ecd_fixed_heads.specs.Extents.{own_end, items_inside, item_end, extent_functions, extent_names}
 use Rattle.ecd_fixed_bytes.specs.Utf8.{utf8_begin, utf8_next, utf8_valid, utf8_functions, utf8_names}
+use Rattle.ecd_keyorder.specs.declared.Order.{Order}
 use Rattle.ecd_fixed_bytes.specs.Compare.{compare_bytes}
 use Rattle.ecd_fixed_bytes.specs.HeadWriter.{head_length, store_be16, store_be32, store_be64, put_head, put_functions, put_names}
 use Rattle.ecd_fixed_bytes.specs.Copier.{copy_bytes}
@@ -82,21 +83,21 @@ pub comparison_behind : IsNew (codes "compare_bytes") (head_functions ++ (extent
 unfolding load_be16 load_be32 load_be64 head_size head_least head_argument head_end head_within own_end items_inside item_end utf8_begin utf8_next utf8_valid
 comparison_behind = new_by (codes "compare_bytes") (head_functions ++ (extent_functions ++ utf8_functions)) refl
 
-pub heads_before : AreNew head_names (extent_functions ++ (utf8_functions ++ AFunction compare_bytes ∷ []))
+pub heads_before : (order : Order) → AreNew head_names (extent_functions ++ (utf8_functions ++ AFunction (compare_bytes order) ∷ []))
 unfolding own_end items_inside item_end utf8_begin utf8_next utf8_valid compare_bytes
-heads_before = all_new_by head_names (extent_functions ++ (utf8_functions ++ AFunction compare_bytes ∷ [])) refl
+heads_before order = all_new_by head_names (extent_functions ++ (utf8_functions ++ AFunction (compare_bytes order) ∷ [])) refl
 
-pub extents_before : AreNew extent_names (utf8_functions ++ AFunction compare_bytes ∷ [])
+pub extents_before : (order : Order) → AreNew extent_names (utf8_functions ++ AFunction (compare_bytes order) ∷ [])
 unfolding utf8_begin utf8_next utf8_valid compare_bytes
-extents_before = all_new_by extent_names (utf8_functions ++ AFunction compare_bytes ∷ []) refl
+extents_before order = all_new_by extent_names (utf8_functions ++ AFunction (compare_bytes order) ∷ []) refl
 
-pub utf8_before : AreNew utf8_names (AFunction compare_bytes ∷ [])
+pub utf8_before : (order : Order) → AreNew utf8_names (AFunction (compare_bytes order) ∷ [])
 unfolding compare_bytes
-utf8_before = all_new_by utf8_names (AFunction compare_bytes ∷ []) refl
+utf8_before order = all_new_by utf8_names (AFunction (compare_bytes order) ∷ []) refl
 
-pub writing_behind_front : AreNew writing_names front_functions
+pub writing_behind_front : (order : Order) → AreNew writing_names (front_functions order)
 unfolding load_be16 load_be32 load_be64 head_size head_least head_argument head_end head_within own_end items_inside item_end utf8_begin utf8_next utf8_valid compare_bytes
-writing_behind_front = all_new_by writing_names front_functions refl
+writing_behind_front order = all_new_by writing_names (front_functions order) refl
 
 pub copier_behind : IsNew (codes "copy_bytes") put_functions
 unfolding head_length store_be16 store_be32 store_be64 put_head
@@ -112,13 +113,13 @@ front_before_writing = all_new_by front_names writing_functions refl
 
 -- ---- names with a depth, behind the functions that have none
 
-any_behind : (n : ℕ) → IsNew (any_name n) front_functions
+any_behind : (order : Order) (n : ℕ) → IsNew (any_name n) (front_functions order)
 unfolding any_name load_be16 load_be32 load_be64 head_size head_least head_argument head_end head_within own_end items_inside item_end utf8_begin utf8_next utf8_valid compare_bytes
-any_behind n = new_by (any_name n) front_functions refl
+any_behind order n = new_by (any_name n) (front_functions order) refl
 
-pairs_behind : (n : ℕ) → IsNew (pairs_name n) front_functions
+pairs_behind : (order : Order) (n : ℕ) → IsNew (pairs_name n) (front_functions order)
 unfolding pairs_name load_be16 load_be32 load_be64 head_size head_least head_argument head_end head_within own_end items_inside item_end utf8_begin utf8_next utf8_valid compare_bytes
-pairs_behind n = new_by (pairs_name n) front_functions refl
+pairs_behind order n = new_by (pairs_name n) (front_functions order) refl
 
 items_after_heads : (n : ℕ) → IsNew (items_name n) head_functions
 unfolding items_name load_be16 load_be32 load_be64 head_size head_least head_argument head_end head_within
@@ -136,22 +137,22 @@ items_after_extents : (n : ℕ) → n ≤ 32 → IsNew (items_name n) extent_fun
 unfolding own_end items_inside item_end
 items_after_extents n le = (own_items n, (inside_items n le, (end_items n, tt)))
 
-items_after_others : (n : ℕ) → IsNew (items_name n) (utf8_functions ++ AFunction compare_bytes ∷ [])
+items_after_others : (order : Order) (n : ℕ) → IsNew (items_name n) (utf8_functions ++ AFunction (compare_bytes order) ∷ [])
 unfolding items_name utf8_begin utf8_next utf8_valid compare_bytes
-items_after_others n = new_by (items_name n) (utf8_functions ++ AFunction compare_bytes ∷ []) refl
+items_after_others order n = new_by (items_name n) (utf8_functions ++ AFunction (compare_bytes order) ∷ []) refl
 
-items_behind : (n : ℕ) → n ≤ 32 → IsNew (items_name n) front_functions
-items_behind n le = new_behind head_functions (extent_functions ++ (utf8_functions ++ AFunction compare_bytes ∷ [])) (items_name n) (items_after_heads n)
-    (new_behind extent_functions (utf8_functions ++ AFunction compare_bytes ∷ []) (items_name n) (items_after_extents n le) (items_after_others n))
+items_behind : (order : Order) (n : ℕ) → n ≤ 32 → IsNew (items_name n) (front_functions order)
+items_behind order n le = new_behind head_functions (extent_functions ++ (utf8_functions ++ AFunction (compare_bytes order) ∷ [])) (items_name n) (items_after_heads n)
+    (new_behind extent_functions (utf8_functions ++ AFunction (compare_bytes order) ∷ []) (items_name n) (items_after_extents n le) (items_after_others order n))
 
-text_behind : IsNew (codes "text_end") front_functions
+text_behind : (order : Order) → IsNew (codes "text_end") (front_functions order)
 unfolding load_be16 load_be32 load_be64 head_size head_least head_argument head_end head_within own_end items_inside item_end utf8_begin utf8_next utf8_valid compare_bytes
-text_behind = new_by (codes "text_end") front_functions refl
+text_behind order = new_by (codes "text_end") (front_functions order) refl
 
-pub any_behind_front : (depth : ℕ) → depth ≤ 32 → AreNew (any_names depth) front_functions
-any_behind_front zero le = (text_behind, (any_behind 0, tt))
-any_behind_front (suc below) le =
-    both_names (any_names below) (level_names below) front_functions (any_behind_front below (omega arith)) (items_behind below (omega arith), (pairs_behind below, (any_behind (suc below), tt)))
+pub any_behind_front : (order : Order) (depth : ℕ) → depth ≤ 32 → AreNew (any_names depth) (front_functions order)
+any_behind_front order zero le = (text_behind order, (any_behind order 0, tt))
+any_behind_front order (suc below) le =
+    both_names (any_names below) (level_names below) (front_functions order) (any_behind_front order below (omega arith)) (items_behind order below (omega arith), (pairs_behind order below, (any_behind order (suc below), tt)))
 
 -- ---- and behind each other
 

@@ -9,15 +9,16 @@ use Rattle.ecd_fixed_heads.specs.Heads.{head_functions, head_names}
 use Rattle.ecd_fixed_heads.specs.Extents.{extent_functions, extent_names}
 use Rattle.ecd_fixed_heads.specs.ExtentsStanding.{ExtentsAreThere, ExtentsMean}
 use Rattle.ecd_fixed_bytes.specs.Utf8.{utf8_functions, utf8_names}
+use Rattle.ecd_keyorder.specs.declared.Order.{Order}
 use Rattle.ecd_fixed_bytes.specs.Compare.{compare_bytes, ComparesBytes}
 use Rattle.ecd_fixed_bytes.specs.HeadWriter.{put_functions, put_names}
 use Rattle.ecd_fixed_bytes.specs.Copier.{copy_bytes, CopiesBytes}
 use Rattle.ecd_emit.specs.Among.{AreNew, IsAmong}
 use Rattle.ecd_fixed_heads.specs.Standing.{HeadsAreThere, HeadsMean}
-use Rattle.ecd_fixed_bytes.specs.Standing.{Utf8IsThere, Utf8Means, HeadWriterIsThere, HeadWriterMeans}
+use Rattle.ecd_fixed_bytes.specs.Standing.{ComparisonIsThere, Utf8IsThere, Utf8Means, HeadWriterIsThere, HeadWriterMeans}
 use Rattle.ecd_emit.proofs.Kept.{callee_kept, among_kept}
 use Rattle.ecd_fixed_heads.proofs.Kept.{heads_are_kept}
-use Rattle.ecd_fixed_bytes.proofs.Kept.{utf8_is_kept, head_writer_is_kept}
+use Rattle.ecd_fixed_bytes.proofs.Kept.{comparison_is_kept, utf8_is_kept, head_writer_is_kept}
 use Rattle.ecd_fixed_heads.proofs.Extended.{extents_are_kept}
 use Rattle.ecd_emit.proofs.Placed.{new_behind}
 use Rattle.ecd_rt.specs.Names.{any_name}
@@ -27,8 +28,8 @@ use Rattle.ecd_rt.specs.Standing.{FrontIsThere, FrontMeans, AnyIsThere, AnyMeans
 use Rattle.ecd_rt.specs.Runtime.{front_functions, front_names, writing_functions, writing_names, runtime_functions, runtime_names, RuntimeIsThere, RuntimeMeans, RuntimeIsKept}
 use Rattle.ecd_rt.proofs.Fresh.{first_names, last_names, names_below, new_in_both, extents_behind_heads, utf8_behind, comparison_behind, heads_before, extents_before, utf8_before, writing_behind_front, copier_behind, puts_before, front_before_writing, any_behind_front, front_any, writing_any, any_before_writing}
 
-abbrev pub comparing : List CItem
-comparing = AFunction compare_bytes ∷ []
+abbrev pub comparing : Order → List CItem
+comparing order = AFunction (compare_bytes order) ∷ []
 
 -- ---- what is kept
 
@@ -37,18 +38,18 @@ front_stays items more h = record {
   heads = heads_are_kept.there items more h.heads;
   extents = extents_are_kept.there items more h.extents;
   utf8 = utf8_is_kept.there items more h.utf8;
-  comparison = among_kept compare_bytes items more h.comparison;
+  comparison = comparison_is_kept.there items more h.comparison;
 }
 
-pub front_goes_on : (items more : List CItem) → AreNew front_names more → FrontMeans items → FrontMeans (items ++ more)
-front_goes_on items more new h =
+pub front_goes_on : (order : Order) (items more : List CItem) → AreNew front_names more → FrontMeans order items → FrontMeans order (items ++ more)
+front_goes_on order items more new h =
     let behind_heads = last_names head_names (extent_names ++ (utf8_names ++ codes "compare_bytes" ∷ [])) more new in
     let behind_extents = last_names extent_names (utf8_names ++ codes "compare_bytes" ∷ []) more behind_heads in
     record {
       heads = heads_are_kept.mean items more (first_names head_names (extent_names ++ (utf8_names ++ codes "compare_bytes" ∷ [])) more new) h.heads;
       extents = extents_are_kept.mean items more (first_names extent_names (utf8_names ++ codes "compare_bytes" ∷ []) more behind_heads) h.extents;
       utf8 = utf8_is_kept.mean items more (first_names utf8_names (codes "compare_bytes" ∷ []) more behind_extents) h.utf8;
-      comparison = callee_kept ComparesBytes items more (codes "compare_bytes") behind_extents.1.1.1.0 h.comparison;
+      comparison = callee_kept (ComparesBytes order) items more (codes "compare_bytes") behind_extents.1.1.1.0 h.comparison;
     }
 
 pub any_stays : (depth : ℕ) (items more : List CItem) → AnyIsThere depth items → AnyIsThere depth (items ++ more)
@@ -58,10 +59,10 @@ last_any : (k : ℕ) (items : List CItem) → AreNew (any_names k) items → IsN
 last_any zero items h = h.1.0
 last_any (suc k) items h = (last_names (any_names k) (level_names k) items h).1.1.0
 
-pub any_goes_on : (depth : ℕ) (items more : List CItem) → AreNew (any_names depth) more → AnyMeans depth items → AnyMeans depth (items ++ more)
-any_goes_on depth items more new h = record {
+pub any_goes_on : (order : Order) (depth : ℕ) (items more : List CItem) → AreNew (any_names depth) more → AnyMeans order depth items → AnyMeans order depth (items ++ more)
+any_goes_on order depth items more new h = record {
   text = callee_kept TextEnd items more (codes "text_end") (names_below depth 0 (omega arith) more new).0 h.text;
-  each = λ k le. callee_kept (IsAny k) items more (any_name k) (last_any k more (names_below depth k le more new)) (h.each k le);
+  each = λ k le. callee_kept (IsAny order k) items more (any_name k) (last_any k more (names_below depth k le more new)) (h.each k le);
 }
 
 there_kept : (depth : ℕ) (items more : List CItem) → RuntimeIsThere depth items → RuntimeIsThere depth (items ++ more)
@@ -77,17 +78,17 @@ there_kept depth items more h =
       copier = among_kept copy_bytes items more h.copier;
     }
 
-mean_kept : (depth : ℕ) (items more : List CItem) → AreNew (runtime_names depth) more → RuntimeMeans depth items → RuntimeMeans depth (items ++ more)
-mean_kept depth items more new h =
+mean_kept : (order : Order) (depth : ℕ) (items more : List CItem) → AreNew (runtime_names depth) more → RuntimeMeans order depth items → RuntimeMeans order depth (items ++ more)
+mean_kept order depth items more new h =
     let behind = last_names front_names (any_names depth ++ writing_names) more new in
     let writing = last_names (any_names depth) writing_names more behind in
-    let front = front_goes_on items more (first_names front_names (any_names depth ++ writing_names) more new) (record { heads = h.heads; extents = h.extents; utf8 = h.utf8; comparison = h.comparison }) in
+    let front = front_goes_on order items more (first_names front_names (any_names depth ++ writing_names) more new) (record { heads = h.heads; extents = h.extents; utf8 = h.utf8; comparison = h.comparison }) in
     record {
       heads = front.heads;
       extents = front.extents;
       utf8 = front.utf8;
       comparison = front.comparison;
-      any = any_goes_on depth items more (first_names (any_names depth) writing_names more behind) h.any;
+      any = any_goes_on order depth items more (first_names (any_names depth) writing_names more behind) h.any;
       writer = head_writer_is_kept.mean items more (first_names put_names (codes "copy_bytes" ∷ []) more writing) h.writer;
       copier = callee_kept CopiesBytes items more (codes "copy_bytes") (last_names put_names (codes "copy_bytes" ∷ []) more writing).0 h.copier;
     }
@@ -122,29 +123,29 @@ module _ (old b1 : List CItem) (e1 : b1 ≡ old ++ head_functions) (new : AreNew
       pub comparison_new : IsNew (codes "compare_bytes") b3
       comparison_new = subst (IsNew (codes "compare_bytes")) (sym three) (new_behind old (head_functions ++ (extent_functions ++ utf8_functions)) (codes "compare_bytes") (last_names utf8_names (codes "compare_bytes" ∷ []) old behind_extents).0 comparison_behind)
 
-      module _ (b4 : List CItem) (e4 : b4 ≡ b3 ++ comparing) where
-        from_2 : b4 ≡ b2 ++ (utf8_functions ++ comparing)
-        from_2 = e4 ∙ (ap (λ (l : List CItem). l ++ comparing) e3 ∙ append_assoc b2 utf8_functions comparing)
+      module _ (order : Order) (b4 : List CItem) (e4 : b4 ≡ b3 ++ comparing order) where
+        from_2 : b4 ≡ b2 ++ (utf8_functions ++ comparing order)
+        from_2 = e4 ∙ (ap (λ (l : List CItem). l ++ comparing order) e3 ∙ append_assoc b2 utf8_functions (comparing order))
 
-        from_1 : b4 ≡ b1 ++ (extent_functions ++ (utf8_functions ++ comparing))
-        from_1 = from_2 ∙ (ap (λ (l : List CItem). l ++ (utf8_functions ++ comparing)) e2 ∙ append_assoc b1 extent_functions (utf8_functions ++ comparing))
+        from_1 : b4 ≡ b1 ++ (extent_functions ++ (utf8_functions ++ comparing order))
+        from_1 = from_2 ∙ (ap (λ (l : List CItem). l ++ (utf8_functions ++ comparing order)) e2 ∙ append_assoc b1 extent_functions (utf8_functions ++ comparing order))
 
-        pub front_is : b4 ≡ old ++ front_functions
-        front_is = from_1 ∙ (ap (λ (l : List CItem). l ++ (extent_functions ++ (utf8_functions ++ comparing))) e1 ∙ append_assoc old head_functions (extent_functions ++ (utf8_functions ++ comparing)))
+        pub front_is : b4 ≡ old ++ front_functions order
+        front_is = from_1 ∙ (ap (λ (l : List CItem). l ++ (extent_functions ++ (utf8_functions ++ comparing order))) e1 ∙ append_assoc old head_functions (extent_functions ++ (utf8_functions ++ comparing order)))
 
-        pub front_there : HeadsAreThere b1 → ExtentsAreThere b2 → Utf8IsThere b3 → IsAmong compare_bytes b4 → FrontIsThere b4
+        pub front_there : HeadsAreThere b1 → ExtentsAreThere b2 → Utf8IsThere b3 → ComparisonIsThere b4 → FrontIsThere b4
         front_there heads extents utf8 comparison = record {
-          heads = subst HeadsAreThere (sym from_1) (heads_are_kept.there b1 (extent_functions ++ (utf8_functions ++ comparing)) heads);
-          extents = subst ExtentsAreThere (sym from_2) (extents_are_kept.there b2 (utf8_functions ++ comparing) extents);
-          utf8 = subst Utf8IsThere (sym e4) (utf8_is_kept.there b3 comparing utf8);
+          heads = subst HeadsAreThere (sym from_1) (heads_are_kept.there b1 (extent_functions ++ (utf8_functions ++ comparing order)) heads);
+          extents = subst ExtentsAreThere (sym from_2) (extents_are_kept.there b2 (utf8_functions ++ comparing order) extents);
+          utf8 = subst Utf8IsThere (sym e4) (utf8_is_kept.there b3 (comparing order) utf8);
           comparison = comparison;
         }
 
-        pub front_means : HeadsMean b1 → ExtentsMean b2 → Utf8Means b3 → ComparesBytes (calls_of b4 (codes "compare_bytes")) → FrontMeans b4
+        pub front_means : HeadsMean b1 → ExtentsMean b2 → Utf8Means b3 → ComparesBytes order (calls_of b4 (codes "compare_bytes")) → FrontMeans order b4
         front_means heads extents utf8 comparison = record {
-          heads = subst HeadsMean (sym from_1) (heads_are_kept.mean b1 (extent_functions ++ (utf8_functions ++ comparing)) heads_before heads);
-          extents = subst ExtentsMean (sym from_2) (extents_are_kept.mean b2 (utf8_functions ++ comparing) extents_before extents);
-          utf8 = subst Utf8Means (sym e4) (utf8_is_kept.mean b3 comparing utf8_before utf8);
+          heads = subst HeadsMean (sym from_1) (heads_are_kept.mean b1 (extent_functions ++ (utf8_functions ++ comparing order)) (heads_before order) heads);
+          extents = subst ExtentsMean (sym from_2) (extents_are_kept.mean b2 (utf8_functions ++ comparing order) (extents_before order) extents);
+          utf8 = subst Utf8Means (sym e4) (utf8_is_kept.mean b3 (comparing order) (utf8_before order) utf8);
           comparison = comparison;
         }
 
@@ -166,28 +167,28 @@ module _ (old b1 : List CItem) (e1 : b1 ≡ old ++ put_functions) (new : AreNew 
 
 -- ---- all of them
 
-module _ (depth : ℕ) (deep : depth ≤ 32) (old b1 : List CItem) (e1 : b1 ≡ old ++ front_functions) (new : AreNew (runtime_names depth) old) where
+module _ (order : Order) (depth : ℕ) (deep : depth ≤ 32) (old b1 : List CItem) (e1 : b1 ≡ old ++ front_functions order) (new : AreNew (runtime_names depth) old) where
   behind_front : AreNew (any_names depth ++ writing_names) old
   behind_front = last_names front_names (any_names depth ++ writing_names) old new
 
   pub chain_new : AreNew (any_names depth) b1
-  chain_new = subst (AreNew (any_names depth)) (sym e1) (new_in_both (any_names depth) old front_functions (first_names (any_names depth) writing_names old behind_front) (any_behind_front depth deep))
+  chain_new = subst (AreNew (any_names depth)) (sym e1) (new_in_both (any_names depth) old (front_functions order) (first_names (any_names depth) writing_names old behind_front) (any_behind_front order depth deep))
 
   module _ (b2 : List CItem) (e2 : b2 ≡ b1 ++ any_functions depth) where
-    chained : b2 ≡ old ++ (front_functions ++ any_functions depth)
-    chained = e2 ∙ (ap (λ (l : List CItem). l ++ any_functions depth) e1 ∙ append_assoc old front_functions (any_functions depth))
+    chained : b2 ≡ old ++ (front_functions order ++ any_functions depth)
+    chained = e2 ∙ (ap (λ (l : List CItem). l ++ any_functions depth) e1 ∙ append_assoc old (front_functions order) (any_functions depth))
 
     pub writing_new : AreNew writing_names b2
     writing_new =
         subst (AreNew writing_names) (sym chained)
-        (new_in_both writing_names old (front_functions ++ any_functions depth) (last_names (any_names depth) writing_names old behind_front) (new_in_both writing_names front_functions (any_functions depth) writing_behind_front (writing_any depth)))
+        (new_in_both writing_names old (front_functions order ++ any_functions depth) (last_names (any_names depth) writing_names old behind_front) (new_in_both writing_names (front_functions order) (any_functions depth) (writing_behind_front order) (writing_any depth)))
 
     module _ (b3 : List CItem) (e3 : b3 ≡ b2 ++ writing_functions) where
       behind_1 : b3 ≡ b1 ++ (any_functions depth ++ writing_functions)
       behind_1 = e3 ∙ (ap (λ (l : List CItem). l ++ writing_functions) e2 ∙ append_assoc b1 (any_functions depth) writing_functions)
 
-      pub runtime_is : b3 ≡ old ++ runtime_functions depth
-      runtime_is = behind_1 ∙ (ap (λ (l : List CItem). l ++ (any_functions depth ++ writing_functions)) e1 ∙ append_assoc old front_functions (any_functions depth ++ writing_functions))
+      pub runtime_is : b3 ≡ old ++ runtime_functions order depth
+      runtime_is = behind_1 ∙ (ap (λ (l : List CItem). l ++ (any_functions depth ++ writing_functions)) e1 ∙ append_assoc old (front_functions order) (any_functions depth ++ writing_functions))
 
       pub runtime_there : FrontIsThere b1 → AnyIsThere depth b2 → HeadWriterIsThere b3 → IsAmong copy_bytes b3 → RuntimeIsThere depth b3
       runtime_there front any writer copier =
@@ -202,16 +203,16 @@ module _ (depth : ℕ) (deep : depth ≤ 32) (old b1 : List CItem) (e1 : b1 ≡ 
             copier = copier;
           }
 
-      pub runtime_means : FrontMeans b1 → AnyMeans depth b2 → HeadWriterMeans b3 → CopiesBytes (calls_of b3 (codes "copy_bytes")) → RuntimeMeans depth b3
+      pub runtime_means : FrontMeans order b1 → AnyMeans order depth b2 → HeadWriterMeans b3 → CopiesBytes (calls_of b3 (codes "copy_bytes")) → RuntimeMeans order depth b3
       runtime_means front any writer copier =
           let fresh = new_in_both front_names (any_functions depth) writing_functions (front_any depth deep) front_before_writing in
-          let all : FrontMeans b3 = subst FrontMeans (sym behind_1) (front_goes_on b1 (any_functions depth ++ writing_functions) fresh front) in
+          let all : FrontMeans order b3 = subst (FrontMeans order) (sym behind_1) (front_goes_on order b1 (any_functions depth ++ writing_functions) fresh front) in
           record {
             heads = all.heads;
             extents = all.extents;
             utf8 = all.utf8;
             comparison = all.comparison;
-            any = subst (AnyMeans depth) (sym e3) (any_goes_on depth b2 writing_functions (any_before_writing depth) any);
+            any = subst (AnyMeans order depth) (sym e3) (any_goes_on order depth b2 writing_functions (any_before_writing depth) any);
             writer = writer;
             copier = copier;
           }

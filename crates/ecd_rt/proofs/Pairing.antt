@@ -1,8 +1,6 @@
 -- The functions that read the pairs of a map, over one that reads an item.
 use Rattle.std.proofs.Common.{◌≡◌, ℕ, suc, ◌+◌, ◌-◌, ◌*◌, ◌%◌, min, ◌<◌, ◌≤◌, List, [], ◌∷◌, ◌++◌, take, drop, Option, Some, None, Result, Ok, Err, Bool, true, false, refl, ap, sym, subst, ◌∙◌, arith}
 use Rattle.std.specs.Prelude.{codes, nat_eq, nat_lt}
-use Rattle.std.specs.Ordering.{nat_cmp}
-use Rattle.std.specs.Cmp.Lexicographic.{slice_cmp}
 use Rattle.std.specs.declared.cmp.Ordering.{Ordering}
 use Rattle.std.specs.declared.cmp.Ordering.TheVariants.{Less, Equal, Greater}
 use Rattle.std.proofs.lemmas.Bool.{eqb-true, eqb-false}
@@ -18,7 +16,8 @@ use Rattle.ecd_calculus.specs.Ends.{With, Answers}
 use Rattle.ecd_calculus.specs.Rules.{Works, Goes}
 use Rattle.ecd_calculus.proofs.Calculus.{ends_within}
 use Rattle.ecd_calculus.proofs.Rules.{return_rule, let_rule, let_goes, assign_goes, call_goes, assign_call_goes, guard_goes, nil_goes, called_rule, works_within}
-use Rattle.ecd_keyorder.specs.declared.Order.TheVariants.{Bytewise}
+use Rattle.ecd_keyorder.specs.declared.Order.{Order}
+use Rattle.ecd_keyorder.specs.Order.{comparison}
 use Rattle.ecd_item_laws.specs.declared.fault.Fault.{Fault}
 use Rattle.ecd_item_laws.specs.declared.item.Item.{Item}
 use Rattle.ecd_item_laws.specs.Reading.{Reader, Taken, pairs, is_above, is_less}
@@ -59,9 +58,9 @@ not_above Greater n e h = refl
 not_both : {A : Type 0} (b : Bool) → b ≡ true → b ≡ false → A
 not_both b t f = absurd cc
 
-module _ (read : Reader Item) (ahead : Advances read) (each deepest : ℕ) (calls : Calls) (k block offset len at count : ℕ) (m : Memory) (bytes : List ℕ) (win : Window m block offset len bytes) (le : at ≤ len) where
+module _ (chosen : Order) (read : Reader Item) (ahead : Advances read) (each deepest : ℕ) (calls : Calls) (k block offset len at count : ℕ) (m : Memory) (bytes : List ℕ) (win : Window m block offset len bytes) (le : at ≤ len) where
   abbrev target : ℕ
-  target = place_of (pairs Bytewise read None count at (drop at bytes))
+  target = place_of (pairs chosen read None count at (drop at bytes))
 
   abbrev limit : ℕ
   limit = (each + 27) * paid_by len at target + 1
@@ -73,7 +72,7 @@ module _ (read : Reader Item) (ahead : Advances read) (each deepest : ℕ) (call
   key_at key size = take size (drop key bytes)
 
   abbrev read_on : (key size left here : ℕ) → ℕ
-  read_on key size left here = place_of (pairs Bytewise read (Some (key_at key size)) left here (drop here bytes))
+  read_on key size left here = place_of (pairs chosen read (Some (key_at key size)) left here (drop here bytes))
 
   -- before the turn i, from a place on and behind a key, what is left to read decides
   record Before (i used : ℕ) (env : Scopes) : Type 0 where
@@ -92,15 +91,15 @@ module _ (read : Reader Item) (ahead : Advances read) (each deepest : ℕ) (call
   abbrev Answer : ℕ → Type 0
   Answer a = a ≡ target
 
-  module _ (f : Follows read each (calls (any_name deepest))) (compares : ComparesBytes (calls (codes "compare_bytes"))) (i here key size : ℕ) (within : here ≤ len) (keyed : key + size ≤ len) where
+  module _ (f : Follows read each (calls (any_name deepest))) (compares : ComparesBytes chosen (calls (codes "compare_bytes"))) (i here key size : ℕ) (within : here ≤ len) (keyed : key + size ≤ len) where
     -- the scopes behind a key
     abbrev with_key : (order next : ℕ) → Scopes
     with_key order next = ((w.order, Num order) ∷ (v.size, Num (next - here)) ∷ (w.behind, Num next) ∷ (v.i, Num i) ∷ []) ∷ frame here key size ∷ []
 
     -- a key that is read, and the comparison
     key_goes : (P : ℕ → Type 0) (F : Scopes → Type 0) (t : Taken Item) → read here (drop here bytes) ≡ Ok t → (c : ℕ) →
-        ((order : ℕ) → nat_lt 0 order ≡ true → is_above Bytewise (Some (key_at key size)) (take (t.at - here) (drop here bytes)) ≡ false → P 0) →
-        ((order : ℕ) → is_above Bytewise (Some (key_at key size)) (take (t.at - here) (drop here bytes)) ≡ true → Goes calls m (value_turn deepest) (with_key order t.at) P F c) →
+        ((order : ℕ) → nat_lt 0 order ≡ true → is_above chosen (Some (key_at key size)) (take (t.at - here) (drop here bytes)) ≡ false → P 0) →
+        ((order : ℕ) → is_above chosen (Some (key_at key size)) (take (t.at - here) (drop here bytes)) ≡ true → Goes calls m (value_turn deepest) (with_key order t.at) P F c) →
         Goes calls m (key_turn deepest ++ value_turn deepest) (((v.i, Num i) ∷ []) ∷ frame here key size ∷ []) P F (suc (each * (t.at - here) + suc (1 + suc (0 + suc (7 * (size + 1) + suc (1 + c))))))
     unfolding exprs.shape-the_row-Expr-0 exprs.hidden-the_row-Expr-0 hidden
     key_goes P F t h c stops goes =
@@ -114,12 +113,12 @@ module _ (read : Reader Item) (ahead : Advances read) (each deepest : ℕ) (call
         guard_goes {k = suc (0 + suc (7 * (size + 1) + suc (1 + c)))} (nat_eq x 0) 0 (record { tells = refl }) (record { is = refl }) (λ b. absurd (omega (arith, eqb-true x 0 b, ex, some))) (λ b.
         let less : (x + modulus - here) % modulus ≡ t.at - here = taken x here (omega (arith, ex, n.past)) (omega (arith, ex, fits, win.short)) ∙ ap (λ (p : ℕ). p - here) ex in
         let_goes {n = t.at - here} {k = suc (7 * (size + 1) + suc (1 + c))} (record { is = rw less refl }) (
-        call_goes {c = 7 * (size + 1)} {k = suc (1 + c)} (Ptr block (offset + key) ∷ Num size ∷ Ptr block (offset + here) ∷ Num (t.at - here) ∷ []) (λ o. o ≡ order_number (slice_cmp nat_cmp (key_at key size) (take (t.at - here) (drop here bytes))))
+        call_goes {c = 7 * (size + 1)} {k = suc (1 + c)} (Ptr block (offset + key) ∷ Num size ∷ Ptr block (offset + here) ∷ Num (t.at - here) ∷ []) (λ o. o ≡ order_number (comparison chosen (key_at key size) (take (t.at - here) (drop here bytes))))
         (record { hands = λ p g. rw (win.there, inside win key (omega (arith, keyed)), inside win here within) refl })
         (left_paid size (t.at - here) (compares.answers block (offset + key) size block (offset + here) (t.at - here) m (key_at key size) (take (t.at - here) (drop here bytes)) (part win key size keyed) (part win here (t.at - here) (omega (arith, n.past, fits))))) (λ o eo.
-        guard_goes {k = c} (nat_lt 0 o) 0 (record { tells = refl }) (record { is = refl }) (λ b. stops o b (not_above (slice_cmp nat_cmp (key_at key size) (take (t.at - here) (drop here bytes))) o eo b)) (λ b.
+        guard_goes {k = c} (nat_lt 0 o) 0 (record { tells = refl }) (record { is = refl }) (λ b. stops o b (not_above (comparison chosen (key_at key size) (take (t.at - here) (drop here bytes))) o eo b)) (λ b.
         subst (λ (y : ℕ). Goes calls m (value_turn deepest) (((w.order, Num o) ∷ (v.size, Num (t.at - here)) ∷ (w.behind, Num y) ∷ (v.i, Num i) ∷ []) ∷ frame here key size ∷ []) P F c) (sym ex)
-        (goes o (above (slice_cmp nat_cmp (key_at key size) (take (t.at - here) (drop here bytes))) o eo b)))))))
+        (goes o (above (comparison chosen (key_at key size) (take (t.at - here) (drop here bytes))) o eo b)))))))
 
     -- the value behind it, which answers x
     value_goes : (P : ℕ → Type 0) (F : Scopes → Type 0) (order next c last : ℕ) → Answers (calls (any_name deepest) (Ptr block offset ∷ Num len ∷ Num next ∷ []) m) (λ x. x ≡ last) c →
@@ -134,7 +133,7 @@ module _ (read : Reader Item) (ahead : Advances read) (each deepest : ℕ) (call
         let some : 0 < last = omega (arith, eqb-false x 0 b, ex) in
         nil_goes (subst (λ (y : ℕ). F (((w.order, Num order) ∷ (v.size, Num (next - here)) ∷ (w.behind, Num next) ∷ (v.i, Num i) ∷ []) ∷ frame y here (next - here) ∷ [])) (sym ex) (goes some))))))
 
-  module _ (f : Follows read each (calls (any_name deepest))) (compares : ComparesBytes (calls (codes "compare_bytes"))) where
+  module _ (f : Follows read each (calls (any_name deepest))) (compares : ComparesBytes chosen (calls (codes "compare_bytes"))) where
     -- what a turn may take, where the key and the value do
     abbrev key_cost : (here next size behind : ℕ) → ℕ
     key_cost here next size behind = suc (each * (next - here) + suc (1 + suc (0 + suc (7 * (size + 1) + suc (1 + behind)))))
@@ -159,11 +158,11 @@ module _ (read : Reader Item) (ahead : Advances read) (each deepest : ℕ) (call
           let sum : len - at + 1 ≡ suc (here - at + (b + z)) = omega arith in
           rw (paid_none len at target none, sum) refl
 
-      turn_value : (t : Taken Item) → read here (drop here bytes) ≡ Ok t → is_above Bytewise last (key_read t) ≡ true → (r : Result (Taken Item) Fault) → read t.at t.rest ≡ r → APairTurn i used here key size
+      turn_value : (t : Taken Item) → read here (drop here bytes) ≡ Ok t → is_above chosen last (key_read t) ≡ true → (r : Result (Taken Item) Fault) → read t.at t.rest ≡ r → APairTurn i used here key size
       turn_value t h up (Err e) g =
           let n = next_item read ahead bytes win.each here (omega (arith, long win)) t h in
           let fits : t.at ≤ len = omega (arith, n.within, long win) in
-          let none : target ≡ 0 = sym same ∙ no_value read Bytewise last left here (drop here bytes) t e h up g in
+          let none : target ≡ 0 = sym same ∙ no_value read chosen last left here (drop here bytes) t e h up g in
           let c : ℕ = each * (len - t.at + 1) in
           let y : each * (len - t.at + 1) ≡ each * suc (len - t.at) = ap (λ (x : ℕ). each * x) (omega arith) in
           let b : ℕ = t.at - here in
@@ -173,7 +172,7 @@ module _ (read : Reader Item) (ahead : Advances read) (each deepest : ℕ) (call
           record {
             cost = key_cost here t.at size (value_cost c);
             goes = key_goes f compares i here key size within keyed (λ a. Answer a × (used + suc (key_cost here t.at size (value_cost c)) ≤ limit)) (λ env. Before (i + 1) (used + suc (key_cost here t.at size (value_cost c))) (leave env)) t h (value_cost c)
-                (λ o b d. not_both (is_above Bytewise last (key_read t)) up d)
+                (λ o b d. not_both (is_above chosen last (key_read t)) up d)
                 (λ o d. value_goes f compares i here key size within keyed (λ a. Answer a × (used + suc (key_cost here t.at size (value_cost c)) ≤ limit)) (λ env. Before (i + 1) (used + suc (key_cost here t.at size (value_cost c))) (leave env)) o t.at c 0
                 (known read each (calls (any_name deepest)) f block offset len t.at m bytes win fits (Err e) (ap (read t.at) (sym n.rest) ∙ g))
                 (λ q. (sym none, bound)) (λ lt. absurd (omega arith)));
@@ -186,7 +185,7 @@ module _ (read : Reader Item) (ahead : Advances read) (each deepest : ℕ) (call
           let some : 0 < u.at = omega (arith, o.past) in
           let c : ℕ = each * (u.at - t.at) in
           let b : ℕ = t.at - here in
-          let fresh : read_on here b left u.at ≡ target = ap (λ (l : List ℕ). place_of (pairs Bytewise read (Some (key_read t)) left u.at l)) (sym o.rest) ∙ (sym (pair_go read Bytewise last left here (drop here bytes) t u h up g) ∙ same) in
+          let fresh : read_on here b left u.at ≡ target = ap (λ (l : List ℕ). place_of (pairs chosen read (Some (key_read t)) left u.at l)) (sym o.rest) ∙ (sym (pair_go read chosen last left here (drop here bytes) t u h up g) ∙ same) in
           let sum : u.at - at ≡ here - at + (b + (u.at - t.at)) = omega (arith, n.past, o.past) in
           let total : (each + 27) * (u.at - at) ≡ (each + 27) * (here - at + (b + (u.at - t.at))) = ap (λ (x : ℕ). (each + 27) * x) sum in
           let more : used + suc (key_cost here t.at size (value_cost c)) + 7 * b ≤ (each + 27) * (u.at - at) = omega (arith, total, pair_paid each (here - at) b (u.at - t.at) size used paid (omega (arith, o.past))) in
@@ -195,7 +194,7 @@ module _ (read : Reader Item) (ahead : Advances read) (each deepest : ℕ) (call
           record {
             cost = key_cost here t.at size (value_cost c);
             goes = key_goes f compares i here key size within keyed (λ a. Answer a × (used + suc (key_cost here t.at size (value_cost c)) ≤ limit)) (λ env. Before (i + 1) (used + suc (key_cost here t.at size (value_cost c))) (leave env)) t h (value_cost c)
-                (λ o b d. not_both (is_above Bytewise last (key_read t)) up d)
+                (λ o b d. not_both (is_above chosen last (key_read t)) up d)
                 (λ q d. value_goes f compares i here key size within keyed (λ a. Answer a × (used + suc (key_cost here t.at size (value_cost c)) ≤ limit)) (λ env. Before (i + 1) (used + suc (key_cost here t.at size (value_cost c))) (leave env)) q t.at c u.at
                 answers (λ z. absurd (omega (arith, some, z)))
                 (λ lt. record {
@@ -213,12 +212,12 @@ module _ (read : Reader Item) (ahead : Advances read) (each deepest : ℕ) (call
                 }));
           }
 
-      turn_order : (t : Taken Item) → read here (drop here bytes) ≡ Ok t → (b : Bool) → is_above Bytewise last (key_read t) ≡ b → APairTurn i used here key size
+      turn_order : (t : Taken Item) → read here (drop here bytes) ≡ Ok t → (b : Bool) → is_above chosen last (key_read t) ≡ b → APairTurn i used here key size
       turn_order t h true up = turn_value t h up (read t.at t.rest) refl
       turn_order t h false down =
           let n = next_item read ahead bytes win.each here (omega (arith, long win)) t h in
           let fits : t.at ≤ len = omega (arith, n.within, long win) in
-          let none : target ≡ 0 = sym same ∙ no_order read Bytewise last left here (drop here bytes) t h down in
+          let none : target ≡ 0 = sym same ∙ no_order read chosen last left here (drop here bytes) t h down in
           let b : ℕ = t.at - here in
           let z : ℕ = len - t.at in
           let is = stopped b z (omega (arith, n.past, fits)) none in
@@ -227,14 +226,14 @@ module _ (read : Reader Item) (ahead : Advances read) (each deepest : ℕ) (call
             cost = key_cost here t.at size 0;
             goes = key_goes f compares i here key size within keyed (λ a. Answer a × (used + suc (key_cost here t.at size 0) ≤ limit)) (λ env. Before (i + 1) (used + suc (key_cost here t.at size 0)) (leave env)) t h 0
                 (λ o b d. (sym none, bound))
-                (λ o d. not_both (is_above Bytewise last (key_read t)) d down);
+                (λ o d. not_both (is_above chosen last (key_read t)) d down);
           }
 
       turn_key : (r : Result (Taken Item) Fault) → read here (drop here bytes) ≡ r → APairTurn i used here key size
       unfolding exprs.shape-the_row-Expr-0 exprs.hidden-the_row-Expr-0 hidden
-      turn_key (Ok t) h = turn_order t h (is_above Bytewise last (key_read t)) refl
+      turn_key (Ok t) h = turn_order t h (is_above chosen last (key_read t)) refl
       turn_key (Err e) h =
-          let none : target ≡ 0 = sym same ∙ no_key read Bytewise last left here (drop here bytes) e h in
+          let none : target ≡ 0 = sym same ∙ no_key read chosen last left here (drop here bytes) e h in
           let c : ℕ = each * (len - here + 1) in
           let y : each * (len - here + 1) ≡ each * suc (len - here) = ap (λ (x : ℕ). each * x) (omega arith) in
           let is = stopped 0 (len - here) (omega arith) none in
@@ -265,7 +264,7 @@ module _ (read : Reader Item) (ahead : Advances read) (each deepest : ℕ) (call
     pub pairs_answers : Answers (called calls k (pairs_end deepest) (counted block offset len at count) m) Answer ((each + 27) * paid_by len at target + 5)
     unfolding pairs_end exprs.shape-the_row-Expr-0 exprs.hidden-the_row-Expr-0 hidden
     pairs_answers =
-        let first : read_on at 0 count at ≡ target = ap place_of (pairs_first read ahead bytes win.each count at (omega (arith, long win))) in
+        let first : read_on at 0 count at ≡ target = ap place_of (pairs_first chosen read ahead bytes win.each count at (omega (arith, long win))) in
         called_rule calls m k (pairs_end deepest) (counted block offset len at count) Answer ((each + 27) * paid_by len at target + 5) (
         works_within (suc (suc (suc (suc limit)))) ((each + 27) * paid_by len at target + 5) (omega arith) (
         let_rule {n = at} {k = suc (suc (suc limit))} (record { is = refl }) (

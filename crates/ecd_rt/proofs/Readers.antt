@@ -1,9 +1,10 @@
 -- Where readers of items stop, and that the reader of an item finds one.
 use Rattle.std.proofs.Common.{◌≡◌, ℕ, zero, suc, ◌+◌, ◌-◌, ◌<◌, ◌≤◌, Bool, true, false, List, [], ◌∷◌, length, take, drop, Option, Some, None, Result, Ok, Err, refl, ap, sym, ◌∙◌, arith, length-append, length-drop, length-take}
-use Rattle.std.specs.Prelude.{◌≢◌}
+use Rattle.std.specs.Prelude.{◌≢◌, nat_lt}
+use Rattle.std.proofs.lemmas.Bool.Decides.{nat_tests}
 use Rattle.std.proofs.lemmas.List.{drop_at, drop-drop}
 use Rattle.ecd_keyorder.specs.declared.Order.{Order}
-use Rattle.ecd_keyorder.specs.declared.Order.TheVariants.{Bytewise}
+use Rattle.ecd_keyorder.specs.declared.Order.TheVariants.{Bytewise, LengthFirst}
 use Rattle.ecd_item_laws.specs.declared.fault.Fault.{Fault}
 use Rattle.ecd_item_laws.specs.declared.item.Item.{Item}
 use Rattle.ecd_item_laws.specs.declared.item.Pair.{Pair}
@@ -146,43 +147,41 @@ module _ (read : Reader Item) (ahead : Advances read) (bytes : List ℕ) (fits :
 
 -- ---- before the first pair an empty key may be taken for the one before
 
-above_empty : (k : ℕ) (key : List ℕ) → is_above Bytewise (Some []) (k ∷ key) ≡ true
-above_empty k key = refl
+some_above : (order : Order) (key : List ℕ) → 0 < length key → is_above order (Some []) key ≡ true
+some_above order [] lt = absurd (omega arith)
+some_above Bytewise (k ∷ key) lt = refl
+some_above LengthFirst (k ∷ key) lt = let less : nat_lt 0 (length (k ∷ key)) ≡ true = grind (arith, nat_tests, lt) in rw less refl
 
-some_above : (key : List ℕ) → 0 < length key → is_above Bytewise (Some []) key ≡ true
-some_above [] lt = absurd (omega arith)
-some_above (k ∷ key) lt = refl
-
-module _ (read : Reader Item) (ahead : Advances read) (bytes : List ℕ) (fits : IsBytes bytes) where
-  first_pair : (n at : ℕ) → at ≤ length bytes → (r : Result (Taken Item) Fault) → read at (drop at bytes) ≡ r → pairs Bytewise read (Some []) (suc n) at (drop at bytes) ≡ pairs Bytewise read None (suc n) at (drop at bytes)
+module _ (order : Order) (read : Reader Item) (ahead : Advances read) (bytes : List ℕ) (fits : IsBytes bytes) where
+  first_pair : (n at : ℕ) → at ≤ length bytes → (r : Result (Taken Item) Fault) → read at (drop at bytes) ≡ r → pairs order read (Some []) (suc n) at (drop at bytes) ≡ pairs order read None (suc n) at (drop at bytes)
   unfolding pairs
   first_pair n at le (Err e) h = rw h refl
   first_pair n at le (Ok k) h =
       let t = next_item read ahead bytes fits at le k h in
       let long : 0 < length (take (k.at - at) (drop at bytes)) = omega (arith, t.past, t.within, length-take (k.at - at) (drop at bytes), length-drop at bytes) in
-      rw (h, some_above (take (k.at - at) (drop at bytes)) long) refl
+      rw (h, some_above order (take (k.at - at) (drop at bytes)) long) refl
 
-  pub pairs_first : (n at : ℕ) → at ≤ length bytes → pairs Bytewise read (Some []) n at (drop at bytes) ≡ pairs Bytewise read None n at (drop at bytes)
+  pub pairs_first : (n at : ℕ) → at ≤ length bytes → pairs order read (Some []) n at (drop at bytes) ≡ pairs order read None n at (drop at bytes)
   unfolding pairs
   pairs_first zero at le = refl
   pairs_first (suc n) at le = first_pair n at le (read at (drop at bytes)) refl
 
 -- ---- the one place where an item ends
 
-module _ (d at : ℕ) (bytes : List ℕ) (fits : IsBytes bytes) where
-  found : (r : Result (Taken Item) Fault) → item_at Bytewise d at (drop at bytes) ≡ r → place_of r ≢ 0 → WholeStands d bytes at (place_of r)
+module _ (order : Order) (d at : ℕ) (bytes : List ℕ) (fits : IsBytes bytes) where
+  found : (r : Result (Taken Item) Fault) → item_at order d at (drop at bytes) ≡ r → place_of r ≢ 0 → WholeStands order d bytes at (place_of r)
   found (Err e) h ne = absurd (ne refl)
   found (Ok x) h ne =
-      let t = item_takes Bytewise d at (drop at bytes) x (IsBytes-drop at bytes fits) h in
+      let t = item_takes order d at (drop at bytes) x (IsBytes-drop at bytes fits) h in
       record { item = x.value; whole = t.holds; stands = record { there = (x.rest, t.whole); behind = t.place } }
 
-  only : (e : ℕ) → WholeStands d bytes at e → (place_of (item_at Bytewise d at (drop at bytes)) ≡ e) × (0 < e)
+  only : (e : ℕ) → WholeStands order d bytes at e → (place_of (item_at order d at (drop at bytes)) ≡ e) × (0 < e)
   only e s =
       let text = encoding s.item in
-      let again = item_again Bytewise s.item d at s.stands.there.0 s.whole.1 s.whole.0 in
-      let some = item_long s.item (valid_framed Bytewise s.item s.whole.0) in
-      let same : place_of (item_at Bytewise d at (drop at bytes)) ≡ at + length text = rw (s.stands.there.1, again) refl in
+      let again = item_again order s.item d at s.stands.there.0 s.whole.1 s.whole.0 in
+      let some = item_long s.item (valid_framed order s.item s.whole.0) in
+      let same : place_of (item_at order d at (drop at bytes)) ≡ at + length text = rw (s.stands.there.1, again) refl in
       (same ∙ sym s.stands.behind, omega (arith, s.stands.behind, some))
 
-  pub item_ends : IsEnd (WholeStands d bytes at) (place_of (item_at Bytewise d at (drop at bytes)))
-  item_ends = record { found = found (item_at Bytewise d at (drop at bytes)) refl; only = only }
+  pub item_ends : IsEnd (WholeStands order d bytes at) (place_of (item_at order d at (drop at bytes)))
+  item_ends = record { found = found (item_at order d at (drop at bytes)) refl; only = only }

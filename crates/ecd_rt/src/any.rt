@@ -6,6 +6,7 @@ ghost use Rattle.ecd_cast.specs.declared.tree.Expr.TheVariants.{Number as ANumbe
 ghost use Rattle.ecd_emit.specs.Shorthands as spec;
 ghost use Rattle.ecd_emit.specs.Variables as v;
 ghost use Rattle.ecd_emit.specs.Among.{AreNew};
+ghost use Rattle.ecd_keyorder.specs.declared.Order.{Order};
 ghost use Rattle.ecd_rt.specs.Trees as trees;
 ghost use Rattle.ecd_rt.specs.Trees.{any_functions, any_names};
 ghost use Rattle.ecd_rt.specs.Standing.{FrontIsThere, FrontMeans, LevelIsThere, AnyIsThere, AnyMeans};
@@ -157,15 +158,15 @@ fn put_level(alloc: Global, below: u8, builder: &mut Builder) -> Result<(), OutO
     Ok(())
 }
 
-/// Puts the functions with a depth up to `depth` behind the builder's items, among which those that they stand on are.
+/// Puts the functions with a depth up to `depth` behind the builder's items, among which those that they stand on are. They
+/// take the order of keys of the comparison that they call.
 pub(crate) fn any_chain(alloc: Global, depth: u8, builder: &mut Builder) -> Result<(), OutOfMemory>
     requires deep { depth ≤ 32 }
     requires there { FrontIsThere builder.old }
-    requires mean { FrontMeans builder.old }
     requires new { AreNew (any_names depth) builder.old }
     ensures items { OnOk result (builder.new ≡ builder.old ++ any_functions depth) }
     ensures there { OnOk result (AnyIsThere depth builder.new) }
-    ensures mean { OnOk result (AnyMeans depth builder.new) }
+    ensures mean { OnOk result ((order : Order) → FrontMeans order builder.old → AnyMeans order depth builder.new) }
 {
     put_leaf(alloc, builder)?;
     for below in 0..depth {

@@ -11,20 +11,25 @@ ghost use Rattle.ecd_rt.specs.Runtime.{front_functions, front_names, writing_fun
 use ecd_cbuild::builder::Builder;
 use ecd_fixed_bytes::{comparison, copier, head_writer, utf8_check};
 use ecd_fixed_heads::{extents, heads};
+use ecd_keyorder::Order;
 use ecd_list::OutOfMemory;
 use std::alloc::Global;
 
-/// Puts what the functions with a depth stand on behind the builder's items.
-pub(crate) fn put_front(alloc: Global, builder: &mut Builder) -> Result<(), OutOfMemory>
+/// Puts what the functions with a depth stand on behind the builder's items, with the comparison for the order.
+pub(crate) fn put_front(
+    alloc: Global,
+    order: Order,
+    builder: &mut Builder,
+) -> Result<(), OutOfMemory>
     requires { AreNew front_names builder.old }
-    ensures items { OnOk result (builder.new ≡ builder.old ++ front_functions) }
+    ensures items { OnOk result (builder.new ≡ builder.old ++ front_functions order) }
     ensures there { OnOk result (FrontIsThere builder.new) }
-    ensures mean { OnOk result (FrontMeans builder.new) }
+    ensures mean { OnOk result (FrontMeans order builder.new) }
 {
     heads(alloc, builder)?;
     extents(alloc, builder)?;
     utf8_check(alloc, builder)?;
-    comparison(alloc, builder)?;
+    comparison(alloc, order, builder)?;
     Ok(())
 }
 

@@ -14,24 +14,30 @@ mod runs;
 use crate::any::any_chain;
 use crate::base::{put_front, put_writing};
 use ecd_cbuild::builder::Builder;
+use ecd_keyorder::Order;
 use ecd_list::OutOfMemory;
 use std::alloc::Global;
 
 /// Puts all fixed functions behind the builder's items: those over heads, extents, the check of UTF-8 and the
 /// comparison of bytes; those with a depth, `any_0` to `any_` of `depth` and what they call; the writer of heads and
-/// the copier. None of their names is taken before.
+/// the copier. The order is that of a map's keys; the names are the same for both. None of them is taken before.
 ///
 /// # Errors
 ///
 /// `OutOfMemory` where memory is wanting. The builder may only be dropped then.
-pub fn runtime(alloc: Global, depth: u8, builder: &mut Builder) -> Result<(), OutOfMemory>
+pub fn runtime(
+    alloc: Global,
+    depth: u8,
+    order: Order,
+    builder: &mut Builder,
+) -> Result<(), OutOfMemory>
     requires deep { depth ≤ 32 }
     requires new { AreNew (runtime_names depth) builder.old }
-    ensures items { OnOk result (builder.new ≡ builder.old ++ runtime_functions depth) }
+    ensures items { OnOk result (builder.new ≡ builder.old ++ runtime_functions order depth) }
     ensures there { OnOk result (RuntimeIsThere depth builder.new) }
-    ensures mean { OnOk result (RuntimeMeans depth builder.new) }
+    ensures mean { OnOk result (RuntimeMeans order depth builder.new) }
 {
-    put_front(alloc, builder)?;
+    put_front(alloc, order, builder)?;
     any_chain(alloc, depth, builder)?;
     put_writing(alloc, builder)?;
     Ok(())

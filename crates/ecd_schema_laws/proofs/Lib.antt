@@ -9,4 +9,4 @@ mod Levels
 mod Parsing
 mod Judging
 mod Thin
-mod Compiling
+pub mod Compiling

@@ -1,10 +1,8 @@
-//! Rows of schemas: lexemes, trees, uses of names, the prelude, bodies, names, the graphs that names are judged by, and compiled readers.
+//! Rows of schemas: lexemes, trees, uses of names, the prelude, bodies, names, and the graphs that names are judged by.
 #![tactic(auto)]
 
 #[cfg(test)]
 mod bodies;
-#[cfg(test)]
-mod compiled;
 #[cfg(test)]
 mod grammar;
 #[cfg(test)]
@@ -17,5 +15,3 @@ mod names;
 mod prelude;
 #[cfg(test)]
 mod uses;
-#[cfg(test)]
-mod vectors;

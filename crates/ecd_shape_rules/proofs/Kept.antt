@@ -1,7 +1,8 @@
 -- Demands that hold: in two lists one after another, and that none of them is broken.
 use Rattle.std.proofs.Common.{inl, inr, List, [], ◌∷◌, ◌++◌}
 use Rattle.ecd_core.specs.Lists.{Each}
-use Rattle.ecd_shape_rules.specs.Demands.{Demand, Rule, IsBrokenIn}
+use Rattle.ecd_shape_rules.specs.declared.rule.Rule.{Rule}
+use Rattle.ecd_shape_rules.specs.Demands.{Demand, IsBrokenIn}
 use Rattle.ecd_shape_rules.specs.Laws.{KeepingBreaksNone}
 
 -- all that is demanded holds

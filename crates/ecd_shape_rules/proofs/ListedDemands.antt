@@ -13,7 +13,8 @@ use Rattle.ecd_core.specs.declared.shape.Way.{Way}
 use Rattle.ecd_core.proofs.Layers.{parts-shown}
 use Rattle.ecd_apart.specs.Apart.{Apart}
 use Rattle.ecd_shape_rules.specs.Starts.{may_be_empty, starts, follow_body, AreApart}
-use Rattle.ecd_shape_rules.specs.Demands.{Demand, A1, A2, A3, A4, demand, apart_from_each, alternatives_apart, two_ways, way_beside_each, ways_beside, demands, shapes_demand, parts_demand, part_demands, groups_demand}
+use Rattle.ecd_shape_rules.specs.declared.rule.Rule.TheVariants.{A1, A2, A3, A4}
+use Rattle.ecd_shape_rules.specs.Demands.{Demand, demand, apart_from_each, alternatives_apart, two_ways, way_beside_each, ways_beside, demands, shapes_demand, parts_demand, part_demands, groups_demand}
 use Rattle.ecd_shape_rules.specs.Listed.{are_emptiable, starts_of, follow_body_of, parts_demanded, two_ways_of, way_beside_all, ways_beside_of, groups_demanded, apart_from_all, alternatives_demanded, shapes_demanded}
 use Rattle.ecd_shape_rules.proofs.Listed.{empty-row, starts-row, demand-row, empty-list, starts-list, demand-list}
 

@@ -11,7 +11,8 @@ use Rattle.ecd_core.specs.declared.shape.Table.{Table}
 use Rattle.ecd_core.specs.declared.shape.Pick.{Pick, Pick', Row_of-MapWay, end_of-MapWay, more_of-MapWay, items-the_row-MapWay, out-Pick}
 use Rattle.ecd_core.proofs.Layers.{entries-shown, pick-out}
 use Rattle.ecd_apart.specs.Apart.{Apart}
-use Rattle.ecd_shape_rules.specs.Demands.{Demand, M2, M4, M5, demand, KeyedField, fields_of, way_fields, entry_fields, map_fields, between, in_pairs, other_key, other_key_or_value, ways_keys_demanded, inner_keys_demanded, keys_demanded, tables_apart, fields_apart, behind_tables, HasNeededField, pick_place, fields_alone, demands, entries_demand, entry_demands, map_ways_demand}
+use Rattle.ecd_shape_rules.specs.declared.rule.Rule.TheVariants.{M2, M4, M5}
+use Rattle.ecd_shape_rules.specs.Demands.{Demand, demand, KeyedField, fields_of, way_fields, entry_fields, map_fields, between, in_pairs, other_key, other_key_or_value, ways_keys_demanded, inner_keys_demanded, keys_demanded, tables_apart, fields_apart, behind_tables, HasNeededField, pick_place, fields_alone, demands, entries_demand, entry_demands, map_ways_demand}
 use Rattle.ecd_shape_rules.specs.ListedMaps.{fields_in, fields_in_ways, fields_in_map, keys_in_ways, keys_in_map, tables_behind, tables_in_map, NeedsOneOf, fields_alone_in, entries_demanded, map_ways_demanded}
 
 -- ---- fields

@@ -11,20 +11,10 @@ use Rattle.ecd_core.specs.declared.shape.Pick.{Pick, Pick', Row_of-MapWay, end_o
 use Rattle.ecd_core.specs.Lists.{Each, HasSome}
 use Rattle.ecd_apart.specs.Apart.{Apart}
 use Rattle.ecd_apart.specs.Keys.{IsSameKey}
+use Rattle.ecd_shape_rules.specs.declared.rule.Rule.{Rule}
+use Rattle.ecd_shape_rules.specs.declared.rule.Rule.TheVariants.{A1, A2, A3, A4, M1, M2, M3, M4, M5}
 use Rattle.ecd_shape_rules.specs.Starts.{may_be_empty, starts, follow, follow_body, AreApart}
 use Rattle.ecd_shape_rules.specs.Alike.{IsAlike}
-
--- The rules, in their order.
-pub data Rule : Type 0 where
-  A1 : Rule
-  A2 : Rule
-  A3 : Rule
-  A4 : Rule
-  M1 : Rule
-  M2 : Rule
-  M3 : Rule
-  M4 : Rule
-  M5 : Rule
 
 -- What a rule demands, and the place at which it is broken where that does not hold.
 pub record Demand : Type 1 where

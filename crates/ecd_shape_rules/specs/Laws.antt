@@ -7,7 +7,8 @@ use Rattle.ecd_core.specs.declared.value.Value.{Value}
 use Rattle.ecd_core.specs.Values.{HasValue}
 use Rattle.ecd_apart.specs.Keys.{KeysDiffer}
 use Rattle.ecd_shape_rules.specs.Alike.{IsAlike}
-use Rattle.ecd_shape_rules.specs.Demands.{Rule, KeepsRules, BreaksRule}
+use Rattle.ecd_shape_rules.specs.declared.rule.Rule.{Rule}
+use Rattle.ecd_shape_rules.specs.Demands.{KeepsRules, BreaksRule}
 
 -- In a shape that keeps the rules the fields of each map that may be taken at once have different keys.
 abbrev pub KeepingHasDifferentKeys : Type 0

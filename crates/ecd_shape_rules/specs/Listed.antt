@@ -8,7 +8,8 @@ use Rattle.ecd_core.specs.declared.shape.Part.TheVariants as p
 use Rattle.ecd_core.specs.declared.shape.Way.{Way}
 use Rattle.ecd_apart.specs.Apart.{Apart}
 use Rattle.ecd_shape_rules.specs.Starts.{part_may_be_empty, part_starts, AreApart}
-use Rattle.ecd_shape_rules.specs.Demands.{Demand, A1, A2, demand, demands, part_demands}
+use Rattle.ecd_shape_rules.specs.declared.rule.Rule.TheVariants.{A1, A2}
+use Rattle.ecd_shape_rules.specs.Demands.{Demand, demand, demands, part_demands}
 
 -- Whether all parts may take no item.
 abbrev pub are_emptiable : List Part → Bool

@@ -5,7 +5,8 @@ use Rattle.ecd_core.specs.declared.shape.MapEntry.{MapEntry, Field', Table'}
 use Rattle.ecd_core.specs.declared.shape.MapEntry.TheVariants as m
 use Rattle.ecd_core.specs.declared.shape.MapWay.{MapWay}
 use Rattle.ecd_apart.specs.Apart.{Apart}
-use Rattle.ecd_shape_rules.specs.Demands.{Demand, M2, M4, M5, demand, KeyedField, entry_fields, between, in_pairs, other_key, other_key_or_value, inner_keys_demanded, fields_apart, pick_place, entry_demands}
+use Rattle.ecd_shape_rules.specs.declared.rule.Rule.TheVariants.{M2, M4, M5}
+use Rattle.ecd_shape_rules.specs.Demands.{Demand, demand, KeyedField, entry_fields, between, in_pairs, other_key, other_key_or_value, inner_keys_demanded, fields_apart, pick_place, entry_demands}
 
 -- ---- fields
 

@@ -13,7 +13,9 @@ use Rattle.ecd_core.specs.declared.shape.Table.{Table}
 use Rattle.ecd_core.specs.declared.shape.Pick.{Pick, out-Pick}
 use Rattle.ecd_core.specs.Lists.{Each}
 use Rattle.ecd_shape_rules.specs.Starts.{AreApart}
-use Rattle.ecd_shape_rules.specs.Demands.{Rule, Demand, A3, A4, M5, demand, demands, part_demands, entry_demands, entry_fields, inner_keys_demanded, IsBrokenIn}
+use Rattle.ecd_shape_rules.specs.declared.rule.Rule.{Rule}
+use Rattle.ecd_shape_rules.specs.declared.rule.Rule.TheVariants.{A3, A4, M5}
+use Rattle.ecd_shape_rules.specs.Demands.{Demand, demand, demands, part_demands, entry_demands, entry_fields, inner_keys_demanded, IsBrokenIn}
 use Rattle.ecd_shape_rules.specs.Listed.{are_emptiable, starts_of, follow_body_of, parts_demanded, ways_beside_of, groups_demanded, alternatives_demanded, shapes_demanded}
 use Rattle.ecd_shape_rules.specs.ListedMaps.{fields_in_ways, keys_in_ways, keys_in_map, tables_in_map, entries_demanded, map_ways_demanded}
 

@@ -3,3 +3,6 @@
 #![tactic(auto)]
 
 pub mod laws;
+mod rule;
+
+pub use rule::Rule;

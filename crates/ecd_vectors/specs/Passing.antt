@@ -2,6 +2,7 @@
 use Rattle.std.specs.Prelude.{ℕ, ◌≡◌, ◌≤◌, ◌<◌, ◌↔◌, Bool, true, false, List, [], ◌∷◌, Option, Some, None, Ok, length, get_or}
 use Rattle.std.specs.List.{count_by}
 use Rattle.hex.specs.Hex.{decode_of}
+use Rattle.ecd_keyorder.specs.declared.Order.TheVariants.{Bytewise}
 use Rattle.ecd_judge.specs.Request.{Request, request}
 use Rattle.ecd_compile.specs.Schema.{IsNumber}
 use Rattle.ecd_reader.specs.Takes.{Takes}
@@ -10,7 +11,7 @@ use Rattle.ecd_vectors.specs.declared.report.Report.{Report}
 
 -- what a case asks of its schema
 abbrev pub request_of : Case → Request
-request_of case = request case.schema.now case.root.now case.depth
+request_of case = request case.schema.now case.root.now case.depth Bytewise
 
 -- the case is within the limits
 pub record IsWithin (case : Case) : Type 0 where

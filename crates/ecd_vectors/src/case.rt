@@ -6,13 +6,14 @@ ghost use Rattle.ecd_vectors.specs.Passing.{Passes, IsWithin};
 ghost use Rattle.ecd_vectors.specs.Steps.{IsDecoded, IsOfCase};
 
 use ecd_compile::{Compiled, Refusal, compile};
+use ecd_keyorder::Order;
 use ecd_lex::MOST_BYTES;
 use ecd_list::OutOfMemory;
 use ecd_reader::consumed;
 use hex::FromHexError;
 use std::alloc::Global;
 
-/// A schema (RFC 8610), and how many of some bytes its reader takes.
+/// A schema (RFC 8610), and how many of some bytes its reader takes, which is compiled for the bytewise order of keys.
 #[derive(Clone, Copy, Debug)]
 pub struct Case {
     /// The schema's text.
@@ -56,7 +57,13 @@ fn compiled_of(alloc: Global, case: &Case) -> Result<Option<Compiled>, OutOfMemo
     requires short { length case.now.schema.now ≤ MOST_BYTES }
     ensures { IfOk result (λ found. IsOfCase case.now found) }
 {
-    match compile(alloc, case.schema.as_bytes(), case.root, case.depth) {
+    match compile(
+        alloc,
+        case.schema.as_bytes(),
+        case.root,
+        case.depth,
+        Order::Bytewise,
+    ) {
         Ok(compiled) => Ok(Some(compiled)),
         Err(refusal) if wants_memory(refusal) => Err(OutOfMemory),
         Err(_) => Ok(None),

@@ -1,6 +1,6 @@
 use Rattle.std.proofs.Common.{◌≡◌, ap, sym, ◌∙◌, arith}
 use Rattle.std.specs.Prelude.{decimal, string_bytes}
-use Rattle.ecd_commands.specs.Asked.{bytes_of}
+use Rattle.ecd_commands.specs.Asked.{bytes_of, depth_word}
 use Rattle.ecd_commands.proofs.Tables.{is_copy, five}
 use Rattle.ecd_commands.proofs.words.copy_words.Goals as goal
 
@@ -9,8 +9,8 @@ returns-in_default-schema_words-clause-none c = λ asked asks.
     let words = five c.args.words.now c.file-item.result c.root-item.result c.depth-item.result c.data-item.result c.cap-item.result c.in-len5.len_at_least c.in-len5.len_below c.file-item.is c.root-item.is c.depth-item.is c.data-item.is c.cap-item.is in
     let asked_for = is_copy (bytes_of c.args.words.now) asked asks in
     let same = sym (ap bytes_of words) ∙ asked_for.3 in
-    let digits : string_bytes c.depth-item.result ≡ decimal asked_for.0.depth = cc in
-    c.in_default-schema_words.ensures.none asked_for.0.depth asked_for.4 (c.as_str-3.ensures.value ∙ digits)
+    let digits : string_bytes c.depth-item.result ≡ depth_word asked_for.0.depth asked_for.0.order = cc in
+    c.in_default-schema_words.ensures.none asked_for.0.depth asked_for.0.order asked_for.4 (c.as_str-3.ensures.value ∙ digits)
 
 pub returns-in_default-number_in-clause-none : goal.returns-in_default-number_in-clause-none
 returns-in_default-number_in-clause-none c = λ asked asks.

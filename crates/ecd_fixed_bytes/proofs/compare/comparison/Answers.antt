@@ -11,19 +11,19 @@ use Rattle.ecd_fixed_bytes.proofs.compare.comparison.Goals as goal
 
 pub push-requires-clause-valid : goal.push-requires-clause-valid
 push-requires-clause-valid c =
-    valid_by c.args.builder.now c.args.builder.now compare_bytes c.in_ok-compare_bytes.field-0 refl c.in_ok-compare_bytes.ensures (compare_valid c.args.builder.now c.requires)
+    valid_by c.args.builder.now c.args.builder.now (compare_bytes c.args.order) c.in_ok-compare_bytes.field-0 refl c.in_ok-compare_bytes.ensures (compare_valid c.args.order c.args.builder.now c.requires)
 
 pub push-requires-clause-spelled : goal.push-requires-clause-spelled
-push-requires-clause-spelled c = spelled_by compare_bytes c.in_ok-compare_bytes.field-0 c.in_ok-compare_bytes.ensures compare_spelled
+push-requires-clause-spelled c = spelled_by (compare_bytes c.args.order) c.in_ok-compare_bytes.field-0 c.in_ok-compare_bytes.ensures (compare_spelled c.args.order)
 
 pub returns-clause-there : goal.returns-clause-there
 returns-clause-there c =
     let old = c.args.builder.now in
-    let is : c.push.new.self ≡ old ++ AFunction compare_bytes ∷ [] = c.in_ok-push.ensures.ok ∙ ap (λ (f : Function). old ++ AFunction f ∷ []) c.in_ok-compare_bytes.ensures in
-    subst (IsAmong compare_bytes) (sym is) (compare_among old c.requires)
+    let is : c.push.new.self ≡ old ++ AFunction (compare_bytes c.args.order) ∷ [] = c.in_ok-push.ensures.ok ∙ ap (λ (f : Function). old ++ AFunction f ∷ []) c.in_ok-compare_bytes.ensures in
+    subst (IsAmong (compare_bytes c.args.order)) (sym is) (compare_among c.args.order old c.requires)
 
 pub returns-clause-mean : goal.returns-clause-mean
 returns-clause-mean c =
     let old = c.args.builder.now in
-    let is : c.push.new.self ≡ old ++ AFunction compare_bytes ∷ [] = c.in_ok-push.ensures.ok ∙ ap (λ (f : Function). old ++ AFunction f ∷ []) c.in_ok-compare_bytes.ensures in
-    subst (λ (items : List CItem). ComparesBytes (calls_of items (codes "compare_bytes"))) (sym is) (compare_means old)
+    let is : c.push.new.self ≡ old ++ AFunction (compare_bytes c.args.order) ∷ [] = c.in_ok-push.ensures.ok ∙ ap (λ (f : Function). old ++ AFunction f ∷ []) c.in_ok-compare_bytes.ensures in
+    subst (λ (items : List CItem). ComparesBytes c.args.order (calls_of items (codes "compare_bytes"))) (sym is) (compare_means c.args.order old)

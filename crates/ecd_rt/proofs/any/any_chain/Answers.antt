@@ -35,7 +35,7 @@ returns-clause-there c =
     subst (AnyIsThere c.args.depth) (sym is) (chain_there c.args.builder.now c.requires.there c.args.depth c.requires.deep c.requires.new)
 
 pub returns-clause-mean : goal.returns-clause-mean
-returns-clause-mean c =
+returns-clause-mean c = λ order mean.
     let whole : c.loop-below.below ≡ c.args.depth = omega (arith, c.loop-below.auto, c.loop-below-test.false) in
     let is : c.loop-below.builder ≡ c.args.builder.now ++ any_functions c.args.depth = c.loop-below.invariant ∙ ap (λ n. c.args.builder.now ++ any_functions n) whole in
-    subst (AnyMeans c.args.depth) (sym is) (chain_means c.args.builder.now c.requires.mean c.args.depth c.requires.deep)
+    subst (AnyMeans order c.args.depth) (sym is) (chain_means order c.args.builder.now mean c.args.depth c.requires.deep)

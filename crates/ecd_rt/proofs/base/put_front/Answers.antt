@@ -14,14 +14,14 @@ comparison-requires c =
 
 pub returns-clause-items : goal.returns-clause-items
 returns-clause-items c =
-    front_is c.args.builder.now c.heads.new.builder c.in_ok-heads.ensures.items c.requires c.extents.new.builder c.in_ok-extents.ensures.items c.utf8_check.new.builder c.in_ok-utf8_check.ensures.items c.comparison.new.builder c.in_ok-comparison.ensures.items
+    front_is c.args.builder.now c.heads.new.builder c.in_ok-heads.ensures.items c.requires c.extents.new.builder c.in_ok-extents.ensures.items c.utf8_check.new.builder c.in_ok-utf8_check.ensures.items c.args.order c.comparison.new.builder c.in_ok-comparison.ensures.items
 
 pub returns-clause-there : goal.returns-clause-there
 returns-clause-there c =
-    front_there c.args.builder.now c.heads.new.builder c.in_ok-heads.ensures.items c.requires c.extents.new.builder c.in_ok-extents.ensures.items c.utf8_check.new.builder c.in_ok-utf8_check.ensures.items c.comparison.new.builder c.in_ok-comparison.ensures.items
-    c.in_ok-heads.ensures.there c.in_ok-extents.ensures.there c.in_ok-utf8_check.ensures.there c.in_ok-comparison.ensures.there
+    front_there c.args.builder.now c.heads.new.builder c.in_ok-heads.ensures.items c.requires c.extents.new.builder c.in_ok-extents.ensures.items c.utf8_check.new.builder c.in_ok-utf8_check.ensures.items c.args.order c.comparison.new.builder c.in_ok-comparison.ensures.items
+    c.in_ok-heads.ensures.there c.in_ok-extents.ensures.there c.in_ok-utf8_check.ensures.there (record { order = c.args.order; there = c.in_ok-comparison.ensures.there })
 
 pub returns-clause-mean : goal.returns-clause-mean
 returns-clause-mean c =
-    front_means c.args.builder.now c.heads.new.builder c.in_ok-heads.ensures.items c.requires c.extents.new.builder c.in_ok-extents.ensures.items c.utf8_check.new.builder c.in_ok-utf8_check.ensures.items c.comparison.new.builder c.in_ok-comparison.ensures.items
+    front_means c.args.builder.now c.heads.new.builder c.in_ok-heads.ensures.items c.requires c.extents.new.builder c.in_ok-extents.ensures.items c.utf8_check.new.builder c.in_ok-utf8_check.ensures.items c.args.order c.comparison.new.builder c.in_ok-comparison.ensures.items
     c.in_ok-heads.ensures.mean c.in_ok-extents.ensures.mean c.in_ok-utf8_check.ensures.mean c.in_ok-comparison.ensures.mean

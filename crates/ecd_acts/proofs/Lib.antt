@@ -1,0 +1,12 @@
+pub mod Meeting
+pub mod Statements
+pub mod Loops
+pub mod Cells
+pub mod Ends
+pub mod Names
+pub mod Asking
+pub mod Windows
+pub mod Parts
+pub mod Functions
+pub mod Standing
+pub mod Literals

@@ -1,0 +1,9 @@
+pub mod Acts
+pub mod Rules
+pub mod Cells
+pub mod Ends
+pub mod Names
+pub mod Parts
+pub mod Functions
+pub mod Standing
+pub mod Literals

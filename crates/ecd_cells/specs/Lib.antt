@@ -1,0 +1,4 @@
+pub mod Paths
+pub mod Structs
+pub mod Reads
+pub mod Laws

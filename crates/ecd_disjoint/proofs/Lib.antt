@@ -1,0 +1,12 @@
+pub mod Loops
+pub mod Sums
+pub mod Spans
+pub mod CountRows
+pub mod KeyItems
+pub mod Sizes
+pub mod Rows
+pub mod Ways
+pub mod EndRows
+pub mod EndLoop
+pub mod MissRows
+pub mod Insides

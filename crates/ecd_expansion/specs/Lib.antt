@@ -1,0 +1,14 @@
+pub mod Frames
+pub mod Kinds
+pub mod Visits
+pub mod Limits
+pub mod Told
+pub mod Leaves
+pub mod Operators
+pub mod Groups
+pub mod Walks
+pub mod Arrays
+pub mod Maps
+pub mod Types
+pub mod Expansion
+pub mod Laws
